@@ -1,5 +1,6 @@
 -- A sound verdict accounts for all money.
-use Rattle.std.proofs.Common.{◌≡◌, ℕ, zero, suc, ◌+◌, ◌*◌, ◌/◌, ◌<◌, true, List, [], ◌∷◌, ◌++◌, map, length, reverse, refl, sym, ap, ◌∙◌, subst, arith}
+use Rattle.std.proofs.Common.{◌≡◌, ℕ, zero, suc, ◌+◌, ◌*◌, ◌/◌, ◌<◌, true, List, [], ◌∷◌, ◌++◌, map, length, reverse, refl, sym, ap, ◌∙◌, subst}
+use Rattle.std.proofs.Common.{arith}
 use Rattle.std.specs.List.{IsDistinct, AllByRecursion}
 use Rattle.std.proofs.Math.Nat.{div-lt_iff_lt-mul}
 use Rattle.std.proofs.lemmas.List.{reverse-reverse}
@@ -46,19 +47,25 @@ keeping_of (t ∷ ts) h = (h.0, keeping_of ts h.1)
 
 afters : (K : Shape) (mint : List Output) (later : List Row) → Steady K (minted mint) AnyForm later → AllAfter K (minted mint) later
 afters K mint [] kept = tt
-afters K mint (row ∷ later) kept = (after_of K (minted mint).id row.node (journal row.node (later ++ first_rows K (minted mint))) row.what kept.0 kept.4, afters K mint later kept.3)
+afters K mint (row ∷ later) kept = (
+  after_of K (minted mint).id row.node (journal row.node (later ++ first_rows K (minted mint))) row.what kept.0 kept.4,
+  afters K mint later kept.3,
+)
 
 same_length : {A B : Type 0} (f : A → B) (xs : List A) → length (map f xs) ≡ length xs
 same_length f [] = refl
 same_length f (x ∷ xs) = ap suc (same_length f xs)
 
-module _ (K : Shape) (mint : List Output) (handed : List FullTx) (rows : List Row) (totals : Totals) (shards : 0 < K.shards) (are : AreLedgerJournals K (minted mint).id (journals_of rows))
-    (ordered : IsOrdered (reverse rows)) (begin : BeginAs K (minted mint) (journals_of rows)) (clean : Clean mint handed) (each : EachSpends (reverse rows)) (sound : IsSoundHistory K mint handed rows totals) where
+module _ (K : Shape) (mint : List Output) (handed : List FullTx) (rows : List Row) (totals : Totals) (shards : 0 < K.shards)
+    (are : AreLedgerJournals K (minted mint).id (journals_of rows))
+    (ordered : IsOrdered (reverse rows)) (begin : BeginAs K (minted mint) (journals_of rows)) (clean : Clean mint handed)
+    (each : EachSpends (reverse rows)) (sound : IsSoundHistory K mint handed rows totals) where
   abbrev J : ℕ → List Record
   J = journals_of rows
 
   steady : SteadyJournals K (minted mint) AnyForm J
-  steady = steady_journals K (minted mint) AnyForm shards J (steady_lists K (minted mint) AnyForm J (caused_lists K (minted mint) (reverse rows) are begin sound.pass.caused))
+  steady = steady_journals K (minted mint) AnyForm shards J
+      (steady_lists K (minted mint) AnyForm J (caused_lists K (minted mint) (reverse rows) are begin sound.pass.caused))
 
   abbrev past : List Row
   past = history_of K mint steady.later
@@ -81,7 +88,8 @@ module _ (K : Shape) (mint : List Output) (handed : List FullTx) (rows : List Ro
   unspent : (x : Digest) → (IsUnspent K J x → InBook sound_past.book x) × (InBook sound_past.book x → IsUnspent K J x)
   unspent x =
       let law = unspent_is_book K mint handed steady.later totals shards clean (afters K mint steady.later steady.kept) spends sound_past x in
-      let at : journal (shard_node K (shard_of K.shards x)) past ≡ J (shard_node K (shard_of K.shards x)) = steady.history (shard_node K (shard_of K.shards x)) in
+      let at : journal (shard_node K (shard_of K.shards x)) past ≡ J (shard_node K (shard_of K.shards x)) =
+      steady.history (shard_node K (shard_of K.shards x)) in
       (λ u. law.0 (ap (λ I. status I x) at ∙ u), λ i. ap (λ I. status I x) (sym at) ∙ law.1 i)
 
   done_past : (b : Batch) → has_prepare (journal (b.lane / K.lanes) past) b ≡ true → has_done (journal (b.lane / K.lanes) past) b ≡ true
@@ -109,7 +117,8 @@ module _ (K : Shape) (mint : List Output) (handed : List FullTx) (rows : List Ro
   spent = pass.spent
 
   forms : AreReady mint handed clean spent.txs × (map compact spent.txs ≡ committed past)
-  forms = forms_are mint handed clean (committed past) spent.txs spent.handed_in (spends_of (committed past) (recursion_from_All (λ k. 0 < length k.inputs) (committed past) spends))
+  forms = forms_are mint handed clean (committed past) spent.txs spent.handed_in
+      (spends_of (committed past) (recursion_from_All (λ k. 0 < length k.inputs) (committed past) spends))
 
   so : SoFar mint handed clean spent.txs sound_past.book
   so = fold_so_far mint handed clean spent.txs sound_past.book forms.0 spent.folds
@@ -136,10 +145,15 @@ module _ (K : Shape) (mint : List Output) (handed : List FullTx) (rows : List Ro
     folds = spent.folds;
     unspent = unspent;
     flow = flow;
-    value_kept = λ balanced. omega (arith, flow (λ o. o.value), all_balanced spent.txs (balanced_of spent.txs (recursion_from_All IsBalanced spent.txs balanced)));
+    value_kept = λ balanced. omega (
+      arith,
+      flow (λ o. o.value),
+      all_balanced spent.txs (balanced_of spent.txs (recursion_from_All IsBalanced spent.txs balanced)),
+    );
     issuance = λ keeping. is_issued mint spent.txs sound_past.book (keeping_of spent.txs (recursion_from_All IsKeeping spent.txs keeping)) flow;
     none_twice = none_twice mint handed clean spent.txs sound_past.book so;
-    no_id_twice = subst (λ ks. IsDistinct same_digest (map (λ k. k.id) ks)) forms.1 (no_id_twice mint handed clean spent.txs sound_past.book so forms.0);
+    no_id_twice = subst (λ ks. IsDistinct same_digest (map (λ k. k.id) ks)) forms.1
+        (no_id_twice mint handed clean spent.txs sound_past.book so forms.0);
     idle = idle;
     alike = alike K (minted mint) AnyForm shards J steady idle_past;
     totals_are = λ i. record {
@@ -154,4 +168,5 @@ module _ (K : Shape) (mint : List Output) (handed : List FullTx) (rows : List Ro
   }
 
 pub account : AccountLaw
-account K mint handed rows totals shards are ordered begin clean each sound = is_accounted K mint handed rows totals shards are ordered begin clean each sound
+account K mint handed rows totals shards are ordered begin clean each sound =
+    is_accounted K mint handed rows totals shards are ordered begin clean each sound

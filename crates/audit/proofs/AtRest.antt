@@ -17,7 +17,8 @@ kind_is : (kind : ℕ) (r : Record) (b : Batch) → ((kind_of r == kind) && is_o
 kind_is kind r b t = grind (arith, t)
 
 -- a shard's record stands at no coordinator
-not_home : (K : Shape) (h : ℕ) (minting : Minted) (kind : ℕ) (r : Record) → h < K.coordinators → (kind ≡ 2) ⊎ (kind ≡ 3) → kind_of r ≡ kind → IsInGrammar (header_of K minting.id h) r → ⊥
+not_home : (K : Shape) (h : ℕ) (minting : Minted) (kind : ℕ) (r : Record) → h < K.coordinators → (kind ≡ 2) ⊎ (kind ≡ 3) → kind_of r ≡ kind
+    → IsInGrammar (header_of K minting.id h) r → ⊥
 not_home K h minting kind (Lock stamp c es) low which k g = omega (arith, low, g.2.0)
 not_home K h minting kind (Finish stamp c ds) low which k g = omega (arith, low, g.2.0)
 not_home K h minting kind (Forget stamp c) low which k g = omega (arith, low, g.2.0)
@@ -31,7 +32,8 @@ module _ (K : Shape) (minting : Minted) (P : Compact → Type 0) (shards : 0 < K
   none_found : (n kind : ℕ) (b : Batch) → n < K.coordinators → (kind ≡ 2) ⊎ (kind ≡ 3) → is_some (record_of kind (J n) b) ≡ true → ⊥
   none_found n kind b low which h = elim (record_of kind (J n) b) as (λ o. record_of kind (J n) b ≡ o → is_some o ≡ true → ⊥) [
     | None ↦ λ e t. absurd (let z : false ≡ true = t in cc)
-    | Some r ↦ λ e t. not_home K n minting kind r low which (kind_is kind r b (found_passes kind (J n) b r e)) (found_grammar K minting P shards later kept n kind b r e)
+    | Some r ↦ λ e t. not_home K n minting kind r low which (kind_is kind r b (found_passes kind (J n) b r e))
+        (found_grammar K minting P shards later kept n kind b r e)
   ] refl h
 
   pub at_rest : ((b : Batch) → has_prepare (J (b.lane / K.lanes)) b ≡ true → has_done (J (b.lane / K.lanes)) b ≡ true)

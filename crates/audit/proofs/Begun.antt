@@ -1,5 +1,6 @@
 -- The journals of a ledger begin as some mint's, and caused rows of them are lists of records that are each after their journal and caused.
-use Rattle.std.proofs.Common.{◌≡◌, ◌≢◌, ◌⊎◌, inl, inr, ℕ, zero, suc, ◌+◌, ◌-◌, ◌<◌, ◌≤◌, Bool, true, false, ◌==◌, nat_lt, if◌then◌else◌, List, [], ◌∷◌, ◌++◌, refl, sym, ap, ◌∙◌, subst, arith, append-nil}
+use Rattle.std.proofs.Common.{◌≡◌, ◌≢◌, ◌⊎◌, inl, inr, ℕ, zero, suc, ◌+◌, ◌-◌, ◌<◌, ◌≤◌, Bool, true, false, ◌==◌, nat_lt, if◌then◌else◌, List, []}
+use Rattle.std.proofs.Common.{◌∷◌, ◌++◌, refl, sym, ap, ◌∙◌, subst, arith, append-nil}
 use Rattle.std.proofs.lemmas.List.Elements.{All-head, All-tail}
 use Rattle.std.proofs.lemmas.Bool.Decides.{eqb_tells}
 use Rattle.std.proofs.lemmas.Bool.{cases_lt}
@@ -37,10 +38,12 @@ hashes_below K X (suc s) = hashes_below K X s ++ first_hashes (X (shard_node K s
 
 on_both : (shards s : ℕ) (xs ys : List Digest) → on_shard shards s (xs ++ ys) ≡ on_shard shards s xs ++ on_shard shards s ys
 on_both shards s [] ys = refl
-on_both shards s (x ∷ xs) ys = elim (shard_of shards x == s) as (λ c. (if c then x ∷ on_shard shards s (xs ++ ys) else on_shard shards s (xs ++ ys)) ≡ (if c then x ∷ on_shard shards s xs else on_shard shards s xs) ++ on_shard shards s ys) [
-  | true ↦ ap (λ l. x ∷ l) (on_both shards s xs ys)
-  | false ↦ on_both shards s xs ys
-]
+on_both shards s (x ∷ xs) ys = elim (shard_of shards x == s) as
+    (λ c. (if c then x ∷ on_shard shards s (xs ++ ys) else on_shard shards s (xs ++ ys))
+    ≡ (if c then x ∷ on_shard shards s xs else on_shard shards s xs) ++ on_shard shards s ys) [
+      | true ↦ ap (λ l. x ∷ l) (on_both shards s xs ys)
+      | false ↦ on_both shards s xs ys
+    ]
 
 here_is : (K : Shape) (s : ℕ) (x : Digest) → shard_node K (shard_of K.shards x) ≡ shard_node K s → (shard_of K.shards x == s) ≡ true
 here_is K s x h = grind (arith, h)
@@ -59,33 +62,40 @@ passed false x y h = refl
 all_here : (K : Shape) (s : ℕ) (xs : List Digest) → AreHere K (shard_node K s) xs → on_shard K.shards s xs ≡ xs
 all_here K s [] h = refl
 all_here K s (x ∷ xs) h =
-    taken (shard_of K.shards x == s) (x ∷ on_shard K.shards s xs) (on_shard K.shards s xs) (here_is K s x (All-head (λ y. shard_node K (shard_of K.shards y) ≡ shard_node K s) x xs h))
+    taken (shard_of K.shards x == s) (x ∷ on_shard K.shards s xs) (on_shard K.shards s xs)
+    (here_is K s x (All-head (λ y. shard_node K (shard_of K.shards y) ≡ shard_node K s) x xs h))
     ∙ ap (λ l. x ∷ l) (all_here K s xs (All-tail (λ y. shard_node K (shard_of K.shards y) ≡ shard_node K s) x xs h))
 
 none_here : (K : Shape) (s t : ℕ) (xs : List Digest) → t ≢ s → AreHere K (shard_node K t) xs → on_shard K.shards s xs ≡ []
 none_here K s t [] apart h = refl
 none_here K s t (x ∷ xs) apart h =
-    passed (shard_of K.shards x == s) (x ∷ on_shard K.shards s xs) (on_shard K.shards s xs) (away_is K s t x apart (All-head (λ y. shard_node K (shard_of K.shards y) ≡ shard_node K t) x xs h))
+    passed (shard_of K.shards x == s) (x ∷ on_shard K.shards s xs) (on_shard K.shards s xs)
+    (away_is K s t x apart (All-head (λ y. shard_node K (shard_of K.shards y) ≡ shard_node K t) x xs h))
     ∙ none_here K s t xs apart (All-tail (λ y. shard_node K (shard_of K.shards y) ≡ shard_node K t) x xs h)
 
 module _ (K : Shape) (X : ℕ → List Record) (here : (s : ℕ) → s < K.shards → AreHere K (shard_node K s) (first_hashes (X (shard_node K s)))) where
   none_below : (s n : ℕ) → n ≤ s → n ≤ K.shards → on_shard K.shards s (hashes_below K X n) ≡ []
   none_below s zero le low = refl
   none_below s (suc n) le low =
-      on_both K.shards s (hashes_below K X n) (first_hashes (X (shard_node K n))) ∙ ap (λ l. l ++ on_shard K.shards s (first_hashes (X (shard_node K n)))) (none_below s n (omega (arith, le)) (omega (arith, low)))
+      on_both K.shards s (hashes_below K X n) (first_hashes (X (shard_node K n)))
+      ∙ ap (λ l. l ++ on_shard K.shards s (first_hashes (X (shard_node K n)))) (none_below s n (omega (arith, le)) (omega (arith, low)))
       ∙ none_here K s n (first_hashes (X (shard_node K n))) (λ e. absurd (omega (arith, e, le))) (here n (omega (arith, low)))
 
   all_below : (s n : ℕ) → s < n → n ≤ K.shards → on_shard K.shards s (hashes_below K X n) ≡ first_hashes (X (shard_node K s))
   all_below s zero lt low = absurd (omega (arith, lt))
   all_below s (suc n) lt low = on_both K.shards s (hashes_below K X n) (first_hashes (X (shard_node K n))) ∙ go (all_below s n) (eqb_tells s n)
     where
-      go : (s < n → n ≤ K.shards → on_shard K.shards s (hashes_below K X n) ≡ first_hashes (X (shard_node K s))) → (((s == n) ≡ true) × (s ≡ n)) ⊎ (((s == n) ≡ false) × (s ≢ n)) → on_shard K.shards s (hashes_below K X n) ++ on_shard K.shards s (first_hashes (X (shard_node K n))) ≡ first_hashes (X (shard_node K s))
+      go : (s < n → n ≤ K.shards → on_shard K.shards s (hashes_below K X n) ≡ first_hashes (X (shard_node K s)))
+          → (((s == n) ≡ true) × (s ≡ n)) ⊎ (((s == n) ≡ false) × (s ≢ n))
+          → on_shard K.shards s (hashes_below K X n) ++ on_shard K.shards s (first_hashes (X (shard_node K n))) ≡ first_hashes (X (shard_node K s))
       go below (inl (b, e)) =
-          subst (λ m. on_shard K.shards m (hashes_below K X n) ++ on_shard K.shards m (first_hashes (X (shard_node K n))) ≡ first_hashes (X (shard_node K m))) (sym e)
+          subst (λ m. on_shard K.shards m (hashes_below K X n) ++ on_shard K.shards m (first_hashes (X (shard_node K n)))
+          ≡ first_hashes (X (shard_node K m))) (sym e)
           (ap (λ l. l ++ on_shard K.shards n (first_hashes (X (shard_node K n)))) (none_below n n (omega arith) (omega (arith, low)))
           ∙ all_here K n (first_hashes (X (shard_node K n))) (here n (omega (arith, low))))
       go below (inr (b, other)) =
-          ap (λ l. on_shard K.shards s (hashes_below K X n) ++ l) (none_here K s n (first_hashes (X (shard_node K n))) (λ e. other (sym e)) (here n (omega (arith, low))))
+          ap (λ l. on_shard K.shards s (hashes_below K X n) ++ l)
+          (none_here K s n (first_hashes (X (shard_node K n))) (λ e. other (sym e)) (here n (omega (arith, low))))
           ∙ append-nil (on_shard K.shards s (hashes_below K X n)) ∙ below (omega (arith, lt, other)) (omega (arith, low))
 
 -- ---- the first record of a journal
@@ -96,7 +106,8 @@ log_first h (Start header) low first after = ap Start after.0.0
 log_first h (Genesis header hs) low first after = absurd (let shard : IsShard h.shape h.node = after.0.2 in omega (arith, low, shard.0))
 log_first h other low first after = absurd first
 
-shard_first : (h : Header) (r : Record) → h.shape.coordinators ≤ h.node → IsFirst r → After h [] r → (r ≡ Genesis h (hashes_in r)) × AreHere h.shape h.node (hashes_in r)
+shard_first : (h : Header) (r : Record) → h.shape.coordinators ≤ h.node → IsFirst r → After h [] r
+    → (r ≡ Genesis h (hashes_in r)) × AreHere h.shape h.node (hashes_in r)
 shard_first h (Genesis header hs) high first after = (ap (λ k. Genesis k hs) after.0.0, after.0.5)
 shard_first h (Start header) high first after = absurd (let low : h.node < h.shape.coordinators = after.0.2 in omega (arith, high, low))
 shard_first h other high first after = absurd first
@@ -142,10 +153,12 @@ itself J n own e m = go (eqb_tells n m)
     go (inl (b, same)) = taken (n == m) own (J m) b ∙ e ∙ ap J same
     go (inr (b, other)) = passed (n == m) own (J m) b
 
-seen_more : (K : Shape) (I J : ℕ → List Record) (n : ℕ) (rest : List Record) (r : Record) → ((k : ℕ) → IsEnd (I k) (J k)) → Seen K I n rest r → Seen K J n rest r
+seen_more : (K : Shape) (I J : ℕ → List Record) (n : ℕ) (rest : List Record) (r : Record) → ((k : ℕ) → IsEnd (I k) (J k)) → Seen K I n rest r
+    → Seen K J n rest r
 seen_more K I J n rest r grown s = record { lists = s.lists; ends = λ k. end_trans (s.lists k) (I k) (J k) (s.ends k) (grown k); caused = s.caused }
 
-all_seen : (K : Shape) (H : List Row) → AllCaused K H → (n : ℕ) (newer rest : List Record) (r : Record) → journal n H ≡ newer ++ r ∷ rest → Seen K (λ k. journal k H) n rest r
+all_seen : (K : Shape) (H : List Row) → AllCaused K H → (n : ℕ) (newer rest : List Record) (r : Record) → journal n H ≡ newer ++ r ∷ rest
+    → Seen K (λ k. journal k H) n rest r
 all_seen K [] caused n newer rest r e = absurd (nothing_there newer rest r e)
 all_seen K (row ∷ past) caused n newer rest r e = go (λ more is. all_seen K past caused.1 n more rest r is) (eqb_tells row.node n)
   where
@@ -155,10 +168,12 @@ all_seen K (row ∷ past) caused n newer rest r e = go (λ more is. all_seen K p
       | inr (b, off) ↦ ([], off_row row past k off)
     ]
 
-    older : ((more : List Record) → journal n past ≡ more ++ r ∷ rest → Seen K (λ k. journal k past) n rest r) → (newer : List Record) → journal n past ≡ newer ++ r ∷ rest → Seen K (λ k. journal k (row ∷ past)) n rest r
+    older : ((more : List Record) → journal n past ≡ more ++ r ∷ rest → Seen K (λ k. journal k past) n rest r) → (newer : List Record)
+        → journal n past ≡ newer ++ r ∷ rest → Seen K (λ k. journal k (row ∷ past)) n rest r
     older below newer e = seen_more K (λ k. journal k past) (λ k. journal k (row ∷ past)) n rest r grown (below newer e)
 
-    here : ((more : List Record) → journal n past ≡ more ++ r ∷ rest → Seen K (λ k. journal k past) n rest r) → (newer : List Record) → row.what ∷ journal n past ≡ newer ++ r ∷ rest → row.node ≡ n → Seen K (λ k. journal k (row ∷ past)) n rest r
+    here : ((more : List Record) → journal n past ≡ more ++ r ∷ rest → Seen K (λ k. journal k past) n rest r) → (newer : List Record)
+        → row.what ∷ journal n past ≡ newer ++ r ∷ rest → row.node ≡ n → Seen K (λ k. journal k (row ∷ past)) n rest r
     here below (q ∷ newer) e at = older below newer (cons_same row.what q (journal n past) (newer ++ r ∷ rest) e).1
     here below [] e at =
         let s : (row.what ≡ r) × (journal n past ≡ rest) = cons_same row.what r (journal n past) rest e in
@@ -170,7 +185,8 @@ all_seen K (row ∷ past) caused n newer rest r e = go (λ more is. all_seen K p
               (subst (λ J. IsCaused K J n row.what) (λ i m. sym (itself (λ k. journal k past) n rest (sym s.1) m) i) own);
         }
 
-    go : ((more : List Record) → journal n past ≡ more ++ r ∷ rest → Seen K (λ k. journal k past) n rest r) → (((row.node == n) ≡ true) × (row.node ≡ n)) ⊎ (((row.node == n) ≡ false) × (row.node ≢ n)) → Seen K (λ k. journal k (row ∷ past)) n rest r
+    go : ((more : List Record) → journal n past ≡ more ++ r ∷ rest → Seen K (λ k. journal k past) n rest r)
+        → (((row.node == n) ≡ true) × (row.node ≡ n)) ⊎ (((row.node == n) ≡ false) × (row.node ≢ n)) → Seen K (λ k. journal k (row ∷ past)) n rest r
     go below (inl (b, at)) = here below newer (sym (at_row row past n at) ∙ e) at
     go below (inr (b, off)) = older below newer (sym (off_row row past n off) ∙ e)
 
@@ -194,7 +210,8 @@ module _ (K : Shape) (genesis : Digest) (J : ℕ → List Record) (are : AreLedg
       let e = ends_in (header_of K genesis n) (J n) (are.nodes n (omega (arith, lt))) in
       (e.newer, e.is ∙ ap (λ r. e.newer ++ r ∷ []) (log_first (header_of K genesis n) e.last lt e.first e.after))
 
-  shard_begins : (s : ℕ) → s < K.shards → IsEnd (Genesis (header_of K genesis (shard_node K s)) (on_shard K.shards s m.hashes) ∷ []) (J (shard_node K s))
+  shard_begins : (s : ℕ) → s < K.shards → IsEnd (Genesis (header_of K genesis (shard_node K s)) (on_shard K.shards s m.hashes) ∷ [])
+      (J (shard_node K s))
   shard_begins s lt =
       let e = shard_end s lt in
       let own = shard_first (header_of K genesis (shard_node K s)) e.last (omega arith) e.first e.after in
@@ -204,12 +221,14 @@ module _ (K : Shape) (genesis : Digest) (J : ℕ → List Record) (are : AreLedg
   begins : BeginAs K m J
   begins n = elim (cases_lt n (K.coordinators + K.shards)) [
     | inl inside ↦ subst (λ I. IsEnd I (J n)) (sym (first_is K m n inside)) (elim (nat_lt n K.coordinators) as (λ c. nat_lt n K.coordinators ≡ c
-        → IsEnd ((if c then Start (header_of K m.id n) else Genesis (header_of K m.id n) (on_shard K.shards (n - K.coordinators) m.hashes)) ∷ []) (J n)) [
+        → IsEnd ((if c then Start (header_of K m.id n) else Genesis (header_of K m.id n) (on_shard K.shards (n - K.coordinators) m.hashes)) ∷ [])
+        (J n)) [
           | true ↦ λ t. log_begins n (low t)
           | false ↦ λ t.
               let ge : K.coordinators ≤ n = high t in
               let place : shard_node K (n - K.coordinators) ≡ n = omega (arith, ge) in
-              subst (λ k. IsEnd (Genesis (header_of K genesis k) (on_shard K.shards (n - K.coordinators) m.hashes) ∷ []) (J k)) place (shard_begins (n - K.coordinators) (omega (arith, ge, inside)))
+              subst (λ k. IsEnd (Genesis (header_of K genesis k) (on_shard K.shards (n - K.coordinators) m.hashes) ∷ []) (J k)) place
+              (shard_begins (n - K.coordinators) (omega (arith, ge, inside)))
         ] refl)
     | inr past ↦ subst (λ I. IsEnd I (J n)) (sym (first_beyond K m n past)) (J n, sym (append-nil (J n)))
   ]
@@ -236,9 +255,14 @@ after_in h (q ∷ newer) rest r j = after_in h newer rest r (below h q r newer r
 pub caused_lists : CausedListsLaw
 caused_lists K m past are begin caused = record {
   begins = begin;
-  each = λ n newer rest r e h. (after n newer rest r e (cases_lt n (K.coordinators + K.shards)), all_seen K past caused n newer rest r e, each_passes AnyForm (λ t. tt) r);
+  each = λ n newer rest r e h. (
+    after n newer rest r e (cases_lt n (K.coordinators + K.shards)),
+    all_seen K past caused n newer rest r e,
+    each_passes AnyForm (λ t. tt) r,
+  );
 }
   where
-    after : (n : ℕ) (newer rest : List Record) (r : Record) → journal n past ≡ newer ++ r ∷ rest → (n < K.coordinators + K.shards) ⊎ (K.coordinators + K.shards ≤ n) → After (header_of K m.id n) rest r
+    after : (n : ℕ) (newer rest : List Record) (r : Record) → journal n past ≡ newer ++ r ∷ rest
+        → (n < K.coordinators + K.shards) ⊎ (K.coordinators + K.shards ≤ n) → After (header_of K m.id n) rest r
     after n newer rest r e (inl inside) = after_in (header_of K m.id n) newer rest r (subst (IsJournal (header_of K m.id n)) e (are.nodes n inside))
     after n newer rest r e (inr beyond) = absurd (nothing_there newer rest r (sym (are.others n beyond) ∙ e))

@@ -1,5 +1,6 @@
 -- How many coins a book has: as many as there are hashes in lists without common members that make up those of its coins.
-use Rattle.std.proofs.Common.{◌≡◌, ◌⊎◌, inl, inr, ℕ, zero, suc, ◌+◌, ◌-◌, ◌<◌, true, false, cond, List, [], ◌∷◌, length, Option, Some, None, is_some, refl, sym, ap, ◌∙◌, subst, arith}
+use Rattle.std.proofs.Common.{◌≡◌, ◌⊎◌, inl, inr, ℕ, zero, suc, ◌+◌, ◌-◌, ◌<◌, true, false, cond, List, [], ◌∷◌, length, Option, Some, None, is_some}
+use Rattle.std.proofs.Common.{refl, sym, ap, ◌∙◌, subst, arith}
 use Rattle.std.specs.FinMap as book
 use Rattle.std.specs.FinMap.Entries.{find as find_entry}
 use Rattle.std.specs.Ordering.{nat_cmp, is_eq}
@@ -24,7 +25,8 @@ some_output o p e = cc
 no_entries : (es : List (List ℕ × Output)) → ((q : List ℕ) → find_entry (slice_cmp nat_cmp) q es ≡ None) → length es ≡ 0
 no_entries [] none = refl
 no_entries (e ∷ es) none =
-    absurd (none_some e.1 (sym (none e.0) ∙ ap (λ r. cond (is_eq r) (Some e.1) (find_entry (slice_cmp nat_cmp) e.0 es)) (tied_itself nat_list_cmp_total e.0)))
+    absurd (none_some e.1 (sym (none e.0) ∙ ap (λ r. cond (is_eq r) (Some e.1) (find_entry (slice_cmp nat_cmp) e.0 es))
+    (tied_itself nat_list_cmp_total e.0)))
 
 pub no_keys : (b : Book) → ((q : List ℕ) (o : Output) → book.get b q ≡ Some o → ⊥) → book.len b ≡ 0
 no_keys b none = book.len-entries b ∙ no_entries (book.entries b) (λ q. sym (book.get-entries b q) ∙ nothing (book.get b q) (none q))
@@ -36,7 +38,8 @@ no_keys b none = book.len-entries b ∙ no_entries (book.entries b) (λ q. sym (
 pub one_less : (b : Book) (k : List ℕ) (o : Output) → book.get b k ≡ Some o → book.len b ≡ suc (book.len (book.remove b k))
 one_less b k o there =
     let some = some_there (book.len b) refl in
-    let e : book.len (book.remove b k) ≡ book.len b - 1 = book.len-remove nat_list_cmp_total b k ∙ ap (λ r. cond (is_some r) (book.len b - 1) (book.len b)) there in
+    let e : book.len (book.remove b k) ≡ book.len b - 1 =
+    book.len-remove nat_list_cmp_total b k ∙ ap (λ r. cond (is_some r) (book.len b - 1) (book.len b)) there in
     omega (arith, e, some)
   where
     some_there : (m : ℕ) → book.len b ≡ m → 0 < m
@@ -108,7 +111,8 @@ module _ (Named : Coin → Type 0) (same_hash : (c d : Coin) → Named c → Nam
       let b' : Book = book.remove b (key i.0.point) in
       let one : book.len b ≡ suc (book.len b') = one_less b (key i.0.point) i.0.output i.1 in
       let more : Less xs b' = less xs b' (removed b (key i.0.point) from) once.1
-      (λ y h. stays b from i.0 i.1 y (all y (later x y xs h)) (λ e. true_false (has xs x) (subst (λ z. has xs z ≡ true) (sym (sym i.2 ∙ e)) h) once.0)) in
+      (λ y h. stays b from i.0 i.1 y (all y (later x y xs h))
+      (λ e. true_false (has xs x) (subst (λ z. has xs z ≡ true) (sym (sym i.2 ∙ e)) h) once.0)) in
       record {
         rest = more.rest;
         from = more.from;

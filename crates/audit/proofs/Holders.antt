@@ -1,5 +1,6 @@
 -- Of a Lock, at most one entry holds a hash; and the invariant of a view where it is only told whether a Lock holds a hash.
-use Rattle.std.proofs.Common.{◌≡◌, ◌⊎◌, inl, inr, ℕ, ◌+◌, ◌-◌, ◌<◌, ◌≤◌, min, Bool, true, false, if◌then◌else◌, List, [], ◌∷◌, ◌++◌, refl, sym, ap, ◌∙◌, arith}
+use Rattle.std.proofs.Common.{◌≡◌, ◌⊎◌, inl, inr, ℕ, ◌+◌, ◌-◌, ◌<◌, ◌≤◌, min, Bool, true, false, if◌then◌else◌, List, [], ◌∷◌, ◌++◌, refl, sym, ap}
+use Rattle.std.proofs.Common.{◌∙◌, arith}
 use Rattle.cbdc_model.specs.After.{FitsReplies}
 use Rattle.cbdc_model.specs.Records.{Digest, Batch, Compact, Entry, Reply, Answered, Record, is_held}
 use Rattle.cbdc_model.specs.Replies.{answered, reply_to}
@@ -16,7 +17,8 @@ abbrev pub OneHolder : Digest → List Answered → Type 0
 OneHolder x [] = Unit {0}
 OneHolder x (a ∷ es) = (is_held a.reply ≡ true → 0 < count x a.entry.inputs → count x (held_inputs es) ≡ 0) × OneHolder x es
 
-claimed_by : (r : Reply) (inputs claimed : List Digest) (x : Digest) → is_held r ≡ true → 0 < count x inputs → 0 < count x (if is_held r then inputs ++ claimed else claimed)
+claimed_by : (r : Reply) (inputs claimed : List Digest) (x : Digest) → is_held r ≡ true → 0 < count x inputs
+    → 0 < count x (if is_held r then inputs ++ claimed else claimed)
 claimed_by r inputs claimed x h n = rw h (omega (arith, count-append x inputs claimed))
 
 pub answered_one : (past : List Record) (b : Batch) (claimed : List Digest) (es : List Entry) (x : Digest) → OneHolder x (answered past b claimed es)
@@ -39,7 +41,8 @@ held_none x [] (d ∷ ds) fits z = absurd fits
 held_none x (a ∷ es) [] fits z = absurd fits
 held_none x (a ∷ es) (d ∷ ds) fits z = by (is_held a.reply) d refl refl (λ z'. held_none x es ds fits.1 z')
   where
-    by : (h d' : Bool) → is_held a.reply ≡ h → d ≡ d' → (count x (held_inputs es) ≡ 0 → (count x (taken_inputs es ds) ≡ 0) × (count x (returned_inputs es ds) ≡ 0))
+    by : (h d' : Bool) → is_held a.reply ≡ h → d ≡ d'
+        → (count x (held_inputs es) ≡ 0 → (count x (taken_inputs es ds) ≡ 0) × (count x (returned_inputs es ds) ≡ 0))
         → (count x (taken_inputs (a ∷ es) (d ∷ ds)) ≡ 0) × (count x (returned_inputs (a ∷ es) (d ∷ ds)) ≡ 0)
     by true true h e more =
         let z' : count x (a.entry.inputs ++ held_inputs es) ≡ 0 = rw h at z in
@@ -47,8 +50,10 @@ held_none x (a ∷ es) (d ∷ ds) fits z = by (is_held a.reply) d refl refl (λ 
         (rw e (omega (arith, count-append x a.entry.inputs (taken_inputs es ds), count-append x a.entry.inputs (held_inputs es), i.0)), rw (h, e) i.1)
     by true false h e more =
         let z' : count x (a.entry.inputs ++ held_inputs es) ≡ 0 = rw h at z in
-        let i = more (omega (arith, count-append x a.entry.inputs (held_inputs es))) in
-        (rw e i.0, rw (h, e) (omega (arith, count-append x a.entry.inputs (returned_inputs es ds), count-append x a.entry.inputs (held_inputs es), i.1)))
+        let i = more (omega (arith, count-append x a.entry.inputs (held_inputs es))) in (
+          rw e i.0,
+          rw (h, e) (omega (arith, count-append x a.entry.inputs (returned_inputs es ds), count-append x a.entry.inputs (held_inputs es), i.1)),
+        )
     by false true h e more = absurd (let t : is_held a.reply ≡ true = fits.0 e in let n : true ≡ false = sym t ∙ h in cc)
     by false false h e more =
         let z' : count x (held_inputs es) ≡ 0 = rw h at z in
@@ -56,13 +61,15 @@ held_none x (a ∷ es) (d ∷ ds) fits z = by (is_held a.reply) d refl refl (λ 
         (rw e i.0, rw h i.1)
 
 -- a hash that is taken is not returned
-pub not_both : (x : Digest) (es : List Answered) (ds : List Bool) → OneHolder x es → FitsReplies es ds → 0 < count x (taken_inputs es ds) → count x (returned_inputs es ds) ≡ 0
+pub not_both : (x : Digest) (es : List Answered) (ds : List Bool) → OneHolder x es → FitsReplies es ds → 0 < count x (taken_inputs es ds)
+    → count x (returned_inputs es ds) ≡ 0
 not_both x [] [] one fits n = refl
 not_both x [] (d ∷ ds) one fits n = absurd fits
 not_both x (a ∷ es) [] one fits n = absurd fits
 not_both x (a ∷ es) (d ∷ ds) one fits n = by (is_held a.reply) d refl refl (λ n'. not_both x es ds one.1 fits.1 n')
   where
-    by : (h d' : Bool) → is_held a.reply ≡ h → d ≡ d' → (0 < count x (taken_inputs es ds) → count x (returned_inputs es ds) ≡ 0) → count x (returned_inputs (a ∷ es) (d ∷ ds)) ≡ 0
+    by : (h d' : Bool) → is_held a.reply ≡ h → d ≡ d' → (0 < count x (taken_inputs es ds) → count x (returned_inputs es ds) ≡ 0)
+        → count x (returned_inputs (a ∷ es) (d ∷ ds)) ≡ 0
     by true true h e more =
         let n' : 0 < count x (a.entry.inputs ++ taken_inputs es ds) = rw e at n in
         elim (none_or_some (count x a.entry.inputs)) [
@@ -108,9 +115,13 @@ capped_inv genesis v inv = record {
 
 -- a Finish, where no hash is both taken and returned
 pub capped_finish : (v w : View) (b : Batch) → Finishes v w b
-    → ((x : Digest) → v.takes b x ≤ 1) → ((x : Digest) → v.finished b x ≡ false → 0 < v.takes b x → (v.holds b x ≡ v.takes b x) ⊎ (w.finished b x ≡ v.finished b x)) → Finishes (capped v) (capped w) b
+    → ((x : Digest) → v.takes b x ≤ 1) → ((x : Digest) → v.finished b x ≡ false → 0 < v.takes b x
+    → (v.holds b x ≡ v.takes b x) ⊎ (w.finished b x ≡ v.finished b x)) → Finishes (capped v) (capped w) b
 capped_finish v w b step once exact = record {
-  at = λ x. elim (step.at x) [ here m r t f ↦ here m (min (r + t) 1 - t) t (at_here x m r t f) | elsewhere s ↦ elsewhere (record { status = s.status; arrived = s.arrived; finished = s.finished }) ];
+  at = λ x. elim (step.at x) [
+    | here m r t f ↦ here m (min (r + t) 1 - t) t (at_here x m r t f)
+    | elsewhere s ↦ elsewhere (record { status = s.status; arrived = s.arrived; finished = s.finished })
+  ];
   others = step.others;
   spent = step.spent;
   made = step.made;
@@ -145,7 +156,8 @@ capped_finish v w b step once exact = record {
         holds x m r t f = omega (arith, f.holds_is, f.takes_is, once x)
 
 -- a Commit, where no hash is made twice, and none spent that was not made
-module _ (genesis : Digest → ℕ) (P : Compact → Type 0) (v w : View) (inv : Inv genesis Never (capped v)) (b : Batch) (ts : List Compact) (step : Commits P v w b ts)
+module _ (genesis : Digest → ℕ) (P : Compact → Type 0) (v w : View) (inv : Inv genesis Never (capped v)) (b : Batch) (ts : List Compact)
+    (step : Commits P v w b ts)
     (once : (x : Digest) → genesis x + w.made x ≤ 1) (covered : (x : Digest) → w.spent x ≤ genesis x + w.made x) where
   takes_once : (x : Digest) → count x (all_inputs ts) ≤ 1
   takes_once x = omega (arith, step.spent x, covered x, once x)
@@ -170,4 +182,5 @@ module _ (genesis : Digest → ℕ) (P : Compact → Type 0) (v w : View) (inv :
   }
 
   pub capped_commit : Inv genesis Never (capped w)
-  capped_commit = commit_inv inv b ts capped_step takes_once (λ x n. (omega (arith, step.made x, once x), omega (arith, step.made x, once x))) once (λ t x y p m n i. absurd p)
+  capped_commit = commit_inv inv b ts capped_step takes_once (λ x n. (omega (arith, step.made x, once x), omega (arith, step.made x, once x))) once
+      (λ t x y p m n i. absurd p)

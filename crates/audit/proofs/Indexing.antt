@@ -1,5 +1,6 @@
 -- The first transaction with an id or a compact form, and the index of ids.
-use Rattle.std.proofs.Common.{◌≡◌, ◌<◌, ◌+◌, ℕ, zero, suc, Bool, true, false, cond, ◌&&◌, List, [], ◌∷◌, ◌++◌, length, take, drop, get_or, find, Option, Some, None, is_some, option_map, refl, sym, ap, ◌∙◌, subst, arith}
+use Rattle.std.proofs.Common.{◌≡◌, ◌<◌, ◌+◌, ℕ, zero, suc, Bool, true, false, cond, ◌&&◌, List, [], ◌∷◌, ◌++◌, length, take, drop, get_or, find}
+use Rattle.std.proofs.Common.{Option, Some, None, is_some, option_map, refl, sym, ap, ◌∙◌, subst, arith}
 use Rattle.std.proofs.lemmas.List.{take_more, take-append-drop, drop_more}
 use Rattle.std.specs.Map.{lookup}
 use Rattle.base_types.specs.contracts.hash.HashPartialEq.TheImpl.{eq-value}
@@ -35,7 +36,8 @@ find_past : {X : Type 0} (p : X → Bool) (x : X) (ys : List X) → p x ≡ fals
 find_past p x ys h = ap (λ c. cond c (Some x) (find p ys)) h
 
 -- a search goes on, or ends at a place
-pub none_so_far : (txs : List FullTx) (form : Compact) (k : ℕ) (t : FullTx) → k < length txs → t ≡ get_or txs k t → first_with (take k txs) form ≡ None
+pub none_so_far : (txs : List FullTx) (form : Compact) (k : ℕ) (t : FullTx) → k < length txs → t ≡ get_or txs k t
+    → first_with (take k txs) form ≡ None
     → same_compact (compact t) form ≡ false → first_with (take (k + 1) txs) form ≡ None
 none_so_far txs form k t lt is h other =
     ap (λ l. first_with l form) (take_more txs k t lt ∙ ap (λ u. take k txs ++ u ∷ []) (sym is))
@@ -44,8 +46,10 @@ none_so_far txs form k t lt is h other =
 pub found_at : (txs : List FullTx) (form : Compact) (k : ℕ) (t : FullTx) → k < length txs → t ≡ get_or txs k t → first_with (take k txs) form ≡ None
     → same_compact (compact t) form ≡ true → first_with txs form ≡ Some t
 found_at txs form k t lt is h fits =
-    ap (λ l. first_with l form) (sym (take-append-drop k txs) ∙ ap (λ l. take k txs ++ l) (drop_more txs k t lt ∙ ap (λ u. u ∷ drop (k + 1) txs) (sym is)))
-    ∙ find_skip (λ u. same_compact (compact u) form) (take k txs) (t ∷ drop (k + 1) txs) h ∙ find_here (λ u. same_compact (compact u) form) t (drop (k + 1) txs) fits
+    ap (λ l. first_with l form) (sym (take-append-drop k txs)
+    ∙ ap (λ l. take k txs ++ l) (drop_more txs k t lt ∙ ap (λ u. u ∷ drop (k + 1) txs) (sym is)))
+    ∙ find_skip (λ u. same_compact (compact u) form) (take k txs) (t ∷ drop (k + 1) txs) h
+    ∙ find_here (λ u. same_compact (compact u) form) t (drop (k + 1) txs) fits
 
 -- what has the form has its id
 other_form : (a b : Compact) → same_digest a.id b.id ≡ false → same_compact a b ≡ false
@@ -57,16 +61,19 @@ form_id a b h = grind arith
 pub no_such_id : (txs : List FullTx) (form : Compact) → find (λ t. same_digest (tx_id t) form.id) txs ≡ None → first_with txs form ≡ None
 no_such_id [] form h = refl
 no_such_id (t ∷ txs) form h =
-    elim (same_digest (tx_id t) form.id) as (λ c. same_digest (tx_id t) form.id ≡ c → cond c (Some t) (find (λ u. same_digest (tx_id u) form.id) txs) ≡ None → first_with (t ∷ txs) form ≡ None) [
+    elim (same_digest (tx_id t) form.id) as (λ c. same_digest (tx_id t) form.id ≡ c
+    → cond c (Some t) (find (λ u. same_digest (tx_id u) form.id) txs) ≡ None → first_with (t ∷ txs) form ≡ None) [
       | true ↦ λ e n. absurd (let z : Some t ≡ None = n in cc)
       | false ↦ λ e n. find_past (λ u. same_compact (compact u) form) t txs (other_form (compact t) form e) ∙ no_such_id txs form n
     ] refl h
 
-pub first_id : (txs : List FullTx) (form : Compact) (t : FullTx) → find (λ t. same_digest (tx_id t) form.id) txs ≡ Some t → same_compact (compact t) form ≡ true
+pub first_id : (txs : List FullTx) (form : Compact) (t : FullTx) → find (λ t. same_digest (tx_id t) form.id) txs ≡ Some t
+    → same_compact (compact t) form ≡ true
     → first_with txs form ≡ Some t
 first_id [] form t h fits = absurd (let z : None ≡ Some t = h in cc)
 first_id (u ∷ txs) form t h fits =
-    elim (same_digest (tx_id u) form.id) as (λ c. same_digest (tx_id u) form.id ≡ c → cond c (Some u) (find (λ v. same_digest (tx_id v) form.id) txs) ≡ Some t → first_with (u ∷ txs) form ≡ Some t) [
+    elim (same_digest (tx_id u) form.id) as (λ c. same_digest (tx_id u) form.id ≡ c
+    → cond c (Some u) (find (λ v. same_digest (tx_id v) form.id) txs) ≡ Some t → first_with (u ∷ txs) form ≡ Some t) [
       | true ↦ λ e n.
           let same : u ≡ t = (let z : Some u ≡ Some t = n in cc) in
           find_here (λ v. same_compact (compact v) form) u txs (subst (λ v. same_compact (compact v) form ≡ true) (sym same) fits) ∙ n
@@ -101,7 +108,8 @@ index_next xs t m n h step = record {
   first = λ x. ap (option_map (λ i. get_or (xs ++ t ∷ []) i no_tx)) (step x) ∙ first_at x (first_with_id m x) refl;
 }
   where
-    inside_at : (x : Digest) (i : ℕ) (o : Option ℕ) → first_with_id m x ≡ o → next_index o (same_digest (tx_id t) x) (length xs) ≡ Some i → i < length (xs ++ t ∷ [])
+    inside_at : (x : Digest) (i : ℕ) (o : Option ℕ) → first_with_id m x ≡ o → next_index o (same_digest (tx_id t) x) (length xs) ≡ Some i
+        → i < length (xs ++ t ∷ [])
     inside_at x i (Some j) is e = let k : j ≡ i = some_same j i e in omega (arith, h.inside x j is, length_more xs t)
     inside_at x i None is e =
         elim (same_digest (tx_id t) x) as (λ c. cond c (Some (length xs)) None ≡ Some i → i < length (xs ++ t ∷ [])) [
@@ -110,15 +118,18 @@ index_next xs t m n h step = record {
         ] e
 
     first_at : (x : Digest) (o : Option ℕ) → first_with_id m x ≡ o
-        → option_map (λ i. get_or (xs ++ t ∷ []) i no_tx) (next_index o (same_digest (tx_id t) x) (length xs)) ≡ find (λ u. same_digest (tx_id u) x) (xs ++ t ∷ [])
+        → option_map (λ i. get_or (xs ++ t ∷ []) i no_tx) (next_index o (same_digest (tx_id t) x) (length xs))
+        ≡ find (λ u. same_digest (tx_id u) x) (xs ++ t ∷ [])
     first_at x (Some i) is =
         ap (λ u. Some u) (before_end xs t i (h.inside x i is))
-        ∙ sym (find_keep (λ u. same_digest (tx_id u) x) xs (t ∷ []) (get_or xs i no_tx) (sym (h.first x) ∙ ap (option_map (λ j. get_or xs j no_tx)) is))
+        ∙ sym (find_keep (λ u. same_digest (tx_id u) x) xs (t ∷ []) (get_or xs i no_tx)
+        (sym (h.first x) ∙ ap (option_map (λ j. get_or xs j no_tx)) is))
     first_at x None is =
         let none : find (λ u. same_digest (tx_id u) x) xs ≡ None = sym (h.first x) ∙ ap (option_map (λ j. get_or xs j no_tx)) is in
         elim (same_digest (tx_id t) x) as (λ c. same_digest (tx_id t) x ≡ c
         → option_map (λ i. get_or (xs ++ t ∷ []) i no_tx) (cond c (Some (length xs)) None) ≡ find (λ u. same_digest (tx_id u) x) (xs ++ t ∷ [])) [
-          | true ↦ λ e. ap (λ u. Some u) (at_end xs t) ∙ sym (find_skip (λ u. same_digest (tx_id u) x) xs (t ∷ []) none ∙ find_here (λ u. same_digest (tx_id u) x) t [] e)
+          | true ↦ λ e. ap (λ u. Some u) (at_end xs t)
+              ∙ sym (find_skip (λ u. same_digest (tx_id u) x) xs (t ∷ []) none ∙ find_here (λ u. same_digest (tx_id u) x) t [] e)
           | false ↦ λ e. sym (find_skip (λ u. same_digest (tx_id u) x) xs (t ∷ []) none ∙ find_past (λ u. same_digest (tx_id u) x) t [] e)
         ] refl
 
@@ -141,7 +152,8 @@ pub index_new : (xs : List FullTx) (t : FullTx) (m n : ById) → IsIndex xs m �
     → ((x : Digest) → first_with_id n x ≡ cond (eq-value.it (tx_id t) x) (Some (length xs)) (first_with_id m x)) → IsIndex (xs ++ t ∷ []) n
 index_new xs t m n h is step = index_next xs t m n h (λ x.
     step x ∙ ap (λ c. cond c (Some (length xs)) (first_with_id m x)) (digest_is (tx_id t) x)
-    ∙ new_id (first_with_id m x) (same_digest (tx_id t) x) (length xs) (λ hit. subst (λ y. is_some (first_with_id m y) ≡ false) (same_digest_is (tx_id t) x hit) is))
+    ∙ new_id (first_with_id m x) (same_digest (tx_id t) x) (length xs)
+    (λ hit. subst (λ y. is_some (first_with_id m y) ≡ false) (same_digest_is (tx_id t) x hit) is))
 
 -- one place is read twice
 pub default_same : (txs : List FullTx) (k : ℕ) (t u : FullTx) → k < length txs → t ≡ get_or txs k t → u ≡ get_or txs k u → t ≡ u
@@ -168,10 +180,12 @@ same_there (x ∷ xs) (suc k) t lt e = same_there xs k t (omega arith) e
 pub found_none : (txs : List FullTx) (m : ById) (form : Compact) → IsIndex txs m → first_with_id m form.id ≡ None → first_with txs form ≡ None
 found_none txs m form h e = no_such_id txs form (sym (h.first form.id) ∙ ap (option_map (λ i. get_or txs i no_tx)) e)
 
-pub found_first : (txs : List FullTx) (m : ById) (form : Compact) (i : ℕ) (t : FullTx) → IsIndex txs m → first_with_id m form.id ≡ Some i → t ≡ get_or txs i t
+pub found_first : (txs : List FullTx) (m : ById) (form : Compact) (i : ℕ) (t : FullTx) → IsIndex txs m → first_with_id m form.id ≡ Some i
+    → t ≡ get_or txs i t
     → same_compact (compact t) form ≡ true → first_with txs form ≡ Some t
 found_first txs m form i t h e is fits =
-    first_id txs form t (sym (h.first form.id) ∙ ap (option_map (λ j. get_or txs j no_tx)) e ∙ ap (λ u. Some u) (same_there txs i t (h.inside form.id i e) is)) fits
+    first_id txs form t (sym (h.first form.id) ∙ ap (option_map (λ j. get_or txs j no_tx)) e
+    ∙ ap (λ u. Some u) (same_there txs i t (h.inside form.id i e) is)) fits
 
 -- what is found has the id that was looked for
 find_true : {X : Type 0} (p : X → Bool) (xs : List X) (y : X) → find p xs ≡ Some y → p y ≡ true

@@ -15,7 +15,8 @@ after_rises h q past other a = a.1.0
 
 above_rest : (r q : Record) (later : List Record) → stamp_of r < stamp_of q → Rises (q ∷ later) → Rises (r ∷ (q ∷ later))
 above_rest r q later lt h = (
-  All-cons (λ p. stamp_of r < stamp_of p) q later lt (All-weaker (λ p. stamp_of q < stamp_of p) (λ p. stamp_of r < stamp_of p) (λ p m. omega arith) later h.0),
+  All-cons (λ p. stamp_of r < stamp_of p) q later lt
+      (All-weaker (λ p. stamp_of q < stamp_of p) (λ p. stamp_of r < stamp_of p) (λ p m. omega arith) later h.0),
   h,
 )
 

@@ -40,7 +40,8 @@ module _ (K : Shape) (m : Minted) where
   steady_caused P [] kept = geneses_caused K.shards
   steady_caused P (row ∷ later) kept = (kept.1, steady_caused P later kept.3)
 
-module _ (K : Shape) (mint : List Output) (txs : List FullTx) (later : List Row) (shards : 0 < K.shards) (clean : Clean mint txs) (kept : IsKept K mint txs later) where
+module _ (K : Shape) (mint : List Output) (txs : List FullTx) (later : List Row) (shards : 0 < K.shards) (clean : Clean mint txs)
+    (kept : IsKept K mint txs later) where
   abbrev past : List Row
   past = history_of K mint later
 
@@ -68,7 +69,8 @@ module _ (K : Shape) (mint : List Output) (txs : List FullTx) (later : List Row)
   all_from : AllFrom (IsNamed mint txs) folds.book
   all_from q o e =
       let each : Each (IsProperCompact txs) (committed past)
-      = kept_each K (IsProperCompact txs) (minted mint) shards (apart mint txs clean) later (steady K (minted mint) (IsProperCompact txs) later kept) in
+      = kept_each K (IsProperCompact txs) (minted mint) shards (apart mint txs clean) later (steady K (minted mint) (IsProperCompact txs) later kept)
+      in
       let ready = forms_are mint txs clean (committed past) folds.txs folds.committed (spends (committed past) each) in
       let so : SoFar mint txs clean folds.txs folds.book = fold_so_far mint txs clean folds.txs folds.book ready.0 folds.folds in
       let from = so.stands.origin q o e in
@@ -99,11 +101,13 @@ module _ (K : Shape) (mint : List Output) (txs : List FullTx) (later : List Row)
 
   part_of : (part : Part) → IsSoundPart K mint txs (reverse past) part → IsPartOf K mint txs past folds part
   part_of part p =
-      let own : AreSpent mint txs (committed past) p.book = subst (λ rows. AreSpent mint txs (committed rows) p.book) (reverse-reverse past) p.pass.spent in
+      let own : AreSpent mint txs (committed past) p.book =
+      subst (λ rows. AreSpent mint txs (committed rows) p.book) (reverse-reverse past) p.pass.spent in
       let same : p.book ≡ folds.book = one_book mint txs (committed past) p.book folds.book own spent in
       let is : part.value ≡ value folds.book = p.value_is ∙ ap value same in
       let minted_is = p.minted_is ∙ sym (mint_worth mint txs clean) in
-      let sizes : HasSizes K past part.unspent part.held part.owed = subst (λ rows. HasSizes K rows part.unspent part.held part.owed) (reverse-reverse past) p.sizes in
+      let sizes : HasSizes K past part.unspent part.held part.owed =
+      subst (λ rows. HasSizes K rows part.unspent part.held part.owed) (reverse-reverse past) p.sizes in
       record {
         sizes = sizes;
         coins_are = coins_are part.unspent part.held part.owed sizes;

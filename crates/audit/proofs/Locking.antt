@@ -32,14 +32,16 @@ module _ (K : Shape) (P : Compact → Type 0) (past : List Row) (st : Structure 
   one_held : (n : ℕ) → min n 1 ≤ 1
   one_held n = omega arith
 
-  pub capped_lock : (held : Digest → ℕ) × Locks (capped (view K past)) (capped (view K (record { node = node; what = Lock stamp b es } ∷ past))) b held
+  pub capped_lock : (held : Digest → ℕ) × Locks (capped (view K past)) (capped (view K (record { node = node; what = Lock stamp b es } ∷ past))) b
+      held
   capped_lock = (
     held_now K P past st (λ n. min n 1) (omega arith) some_held none_held node stamp b es next (λ x e. one_held _),
     lock_measured K P past st (λ n. min n 1) (omega arith) some_held none_held node stamp b es next (λ x e. one_held _),
   )
 
 -- each Lock that stands has at most one entry that holds a hash
-holder_next : (K : Shape) (node : ℕ) (J : List Record) (x : Digest) → ((c : Batch) → OneHolder x (lock_of J c)) → (r : Record) → Next K node J r → (c : Batch) → OneHolder x (lock_of (r ∷ J) c)
+holder_next : (K : Shape) (node : ℕ) (J : List Record) (x : Digest) → ((c : Batch) → OneHolder x (lock_of J c)) → (r : Record) → Next K node J r
+    → (c : Batch) → OneHolder x (lock_of (r ∷ J) c)
 holder_next K node J x old (Lock stamp b es) next c =
     elim (same_batch b c) as (λ t. same_batch b c ≡ t → OneHolder x (lock_of (Lock stamp b es ∷ J) c)) [
       | true ↦ λ t.
@@ -50,10 +52,12 @@ holder_next K node J x old (Lock stamp b es) next c =
 holder_next K node J x old other next c = old c
 
 module _ (K : Shape) (minting : Minted) (P : Compact → Type 0) (shards : 0 < K.shards) where
-  pub one_holder : (later : List Row) → Steady K minting P later → (x : Digest) (n : ℕ) (c : Batch) → OneHolder x (lock_of (journal n (later ++ first_rows K minting)) c)
+  pub one_holder : (later : List Row) → Steady K minting P later → (x : Digest) (n : ℕ) (c : Batch)
+      → OneHolder x (lock_of (journal n (later ++ first_rows K minting)) c)
   one_holder [] kept x n c =
       subst (λ l. OneHolder x l)
-      (sym (no_lock (journal n (first_rows K minting)) c (none_of 2 (journal n (first_rows K minting)) (journal_first n (first_rows K minting) (all_first K minting P shards)) c))) tt
+      (sym (no_lock (journal n (first_rows K minting)) c
+      (none_of 2 (journal n (first_rows K minting)) (journal_first n (first_rows K minting) (all_first K minting P shards)) c))) tt
   one_holder (row ∷ later) kept x n c = elim (at_node row.node n) [
     | away e ↦ subst (λ J. OneHolder x (lock_of J c)) (sym (head_away row (later ++ first_rows K minting) n e)) (one_holder later kept.3 x n c)
     | at e ↦ subst (λ J. OneHolder x (lock_of J c)) (sym (head_at row (later ++ first_rows K minting) n e))
@@ -63,26 +67,39 @@ module _ (K : Shape) (minting : Minted) (P : Compact → Type 0) (shards : 0 < K
 
   -- where a Finish comes to a hash that its batch takes, the Lock holds it as often as it is taken
   pub finish_exact : (later : List Row) → Steady K minting P later → (node stamp : ℕ) (b : Batch) (ds : List Bool)
-      → Next K node (journal node (later ++ first_rows K minting)) (Finish stamp b ds) → IsCaused K (λ n. journal n (later ++ first_rows K minting)) node (Finish stamp b ds) → (x : Digest)
+      → Next K node (journal node (later ++ first_rows K minting)) (Finish stamp b ds)
+      → IsCaused K (λ n. journal n (later ++ first_rows K minting)) node (Finish stamp b ds) → (x : Digest)
       → 0 < count x (all_inputs (won_of K (later ++ first_rows K minting) b))
-      → (count x (held_inputs (lock_of (journal_at K (later ++ first_rows K minting) x) b)) ≡ count x (all_inputs (won_of K (later ++ first_rows K minting) b)))
-      ⊎ (has_finish (journal_at K (record { node = node; what = Finish stamp b ds } ∷ (later ++ first_rows K minting)) x) b ≡ has_finish (journal_at K (later ++ first_rows K minting) x) b)
+      → (count x (held_inputs (lock_of (journal_at K (later ++ first_rows K minting) x) b))
+      ≡ count x (all_inputs (won_of K (later ++ first_rows K minting) b)))
+      ⊎ (has_finish (journal_at K (record { node = node; what = Finish stamp b ds } ∷ (later ++ first_rows K minting)) x) b
+      ≡ has_finish (journal_at K (later ++ first_rows K minting) x) b)
   finish_exact later kept node stamp b ds next caused x n = elim (at_node node (shard_node K (shard_of K.shards x))) [
-    | away e ↦ inr (ap (λ J. has_finish J b) (head_away (record { node = node; what = Finish stamp b ds }) (later ++ first_rows K minting) (shard_node K (shard_of K.shards x)) e))
+    | away e ↦ inr (ap (λ J. has_finish J b) (head_away (record { node = node; what = Finish stamp b ds }) (later ++ first_rows K minting)
+        (shard_node K (shard_of K.shards x)) e))
     | at e ↦ inl (here e)
   ]
     where
       here : node ≡ shard_node K (shard_of K.shards x)
-          → count x (held_inputs (lock_of (journal_at K (later ++ first_rows K minting) x) b)) ≡ count x (all_inputs (won_of K (later ++ first_rows K minting) b))
+          → count x (held_inputs (lock_of (journal_at K (later ++ first_rows K minting) x) b))
+          ≡ count x (all_inputs (won_of K (later ++ first_rows K minting) b))
       here e =
           let locked : has_lock (journal_at K (later ++ first_rows K minting) x) b ≡ true
-          = subst (λ m. has_lock (journal m (later ++ first_rows K minting)) b ≡ true) e (((all_structure K minting P shards later kept).journals node).locked b next.2 next.3).0 in
-          let fits : FitsReplies (lock_of (journal_at K (later ++ first_rows K minting) x) b) ds = subst (λ m. FitsReplies (lock_of (journal m (later ++ first_rows K minting)) b) ds) e next.4 in
-          let ds_are : ds ≡ decided (won_at (outcomes_of (lane_journal K (later ++ first_rows K minting) b) b)) (lock_of (journal_at K (later ++ first_rows K minting) x) b)
-          = subst (λ m. ds ≡ decisions (outcomes_of (lane_journal K (later ++ first_rows K minting) b) b) (entries (lock_of (journal m (later ++ first_rows K minting)) b))) e caused.1
-          ∙ decisions-decided (outcomes_of (lane_journal K (later ++ first_rows K minting) b) b) (lock_of (journal_at K (later ++ first_rows K minting) x) b) in
-          let taken : count x (taken_inputs (lock_of (journal_at K (later ++ first_rows K minting) x) b) ds) ≡ count x (all_inputs (won_of K (later ++ first_rows K minting) b))
-          = ap (λ d. count x (taken_inputs (lock_of (journal_at K (later ++ first_rows K minting) x) b) d)) ds_are ∙ taken_is K minting P shards later kept x b locked in
+          = subst (λ m. has_lock (journal m (later ++ first_rows K minting)) b ≡ true) e
+          (((all_structure K minting P shards later kept).journals node).locked b next.2 next.3).0 in
+          let fits : FitsReplies (lock_of (journal_at K (later ++ first_rows K minting) x) b) ds =
+          subst (λ m. FitsReplies (lock_of (journal m (later ++ first_rows K minting)) b) ds) e next.4 in
+          let ds_are : ds ≡ decided (won_at (outcomes_of (lane_journal K (later ++ first_rows K minting) b) b))
+          (lock_of (journal_at K (later ++ first_rows K minting) x) b)
+          = subst (λ m. ds ≡ decisions (outcomes_of (lane_journal K (later ++ first_rows K minting) b) b)
+          (entries (lock_of (journal m (later ++ first_rows K minting)) b))) e caused.1
+          ∙ decisions-decided (outcomes_of (lane_journal K (later ++ first_rows K minting) b) b)
+          (lock_of (journal_at K (later ++ first_rows K minting) x) b) in
+          let taken : count x (taken_inputs (lock_of (journal_at K (later ++ first_rows K minting) x) b) ds)
+          ≡ count x (all_inputs (won_of K (later ++ first_rows K minting) b))
+          = ap (λ d. count x (taken_inputs (lock_of (journal_at K (later ++ first_rows K minting) x) b) d)) ds_are
+          ∙ taken_is K minting P shards later kept x b locked in
           let none : count x (returned_inputs (lock_of (journal_at K (later ++ first_rows K minting) x) b) ds) ≡ 0
-          = not_both x (lock_of (journal_at K (later ++ first_rows K minting) x) b) ds (one_holder later kept x (shard_node K (shard_of K.shards x)) b) fits (omega arith) in
+          = not_both x (lock_of (journal_at K (later ++ first_rows K minting) x) b) ds
+          (one_holder later kept x (shard_node K (shard_of K.shards x)) b) fits (omega arith) in
           omega (arith, count-held x (lock_of (journal_at K (later ++ first_rows K minting) x) b) ds fits)

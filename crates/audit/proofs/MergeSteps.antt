@@ -1,5 +1,6 @@
 -- The steps of a merge.
-use Rattle.std.proofs.Common.{◌≡◌, ◌⊎◌, ◌+◌, ◌<◌, ◌≤◌, inl, inr, ℕ, suc, zero, true, false, not, ◌&&◌, ◌||◌, ◌==◌, nat_lt, List, [], ◌∷◌, ◌++◌, length, take, drop, get_or, if◌then◌else◌, refl, sym, ap, ◌∙◌, subst, arith, append_assoc}
+use Rattle.std.proofs.Common.{◌≡◌, ◌⊎◌, ◌+◌, ◌<◌, ◌≤◌, inl, inr, ℕ, suc, zero, true, false, not, ◌&&◌, ◌||◌, ◌==◌, nat_lt, List, [], ◌∷◌, ◌++◌}
+use Rattle.std.proofs.Common.{length, take, drop, get_or, if◌then◌else◌, refl, sym, ap, ◌∙◌, subst, arith, append_assoc}
 use Rattle.std.proofs.lemmas.List.{take-append-drop, append-nil, drop_more, drop_all}
 use Rattle.cbdc_model.specs.Records.{Record, Row, journal, stamp_of}
 use Rattle.cbdc_model.specs.History.{goes_above}
@@ -9,7 +10,8 @@ use Rattle.audit.specs.Merges.{RiseAll, journals_below, AreApart, MergedUpTo}
 use Rattle.audit.proofs.Rows.{at, away, at_node, head_at, journal-append}
 
 -- two rows that may come next, in their order
-put_between : (rows : List Row) (a b : Row) (more_a more_b : List Row) → RiseAll (rows ++ a ∷ more_a) → RiseAll (rows ++ b ∷ more_b) → goes_above b a ≡ true → RiseAll (rows ++ a ∷ (b ∷ more_b))
+put_between : (rows : List Row) (a b : Row) (more_a more_b : List Row) → RiseAll (rows ++ a ∷ more_a) → RiseAll (rows ++ b ∷ more_b)
+    → goes_above b a ≡ true → RiseAll (rows ++ a ∷ (b ∷ more_b))
 put_between [] a b more_a more_b h k e = (e, k)
 put_between (r ∷ []) a b more_a more_b h k e = (h.0, put_between [] a b more_a more_b h.1 k.1 e)
 put_between (r ∷ (q ∷ rows)) a b more_a more_b h k e = (h.0, put_between (q ∷ rows) a b more_a more_b h.1 k.1 e)
@@ -32,18 +34,22 @@ nil_parts (x ∷ xs) ys e = absurd (no_cons x (xs ++ ys) e)
 -- a node with no rows has none behind a place
 none_behind : (n i : ℕ) (a : List Row) → journal n a ≡ [] → journal n (drop i a) ≡ []
 none_behind n i a e =
-    (nil_parts (journal n (take i a)) (journal n (drop i a)) (sym (journal-append n (take i a) (drop i a)) ∙ ap (journal n) (take-append-drop i a) ∙ e)).1
+    (nil_parts (journal n (take i a)) (journal n (drop i a))
+    (sym (journal-append n (take i a) (drop i a)) ∙ ap (journal n) (take-append-drop i a) ∙ e)).1
 
 -- rows that may come next from two lists without a common node
-nodes_apart : (a b : List Row) (i j : ℕ) (x y : Row) (more_a more_b : List Row) → AreApart a b → drop i a ≡ x ∷ more_a → drop j b ≡ y ∷ more_b → (x.node == y.node) ≡ false
+nodes_apart : (a b : List Row) (i j : ℕ) (x y : Row) (more_a more_b : List Row) → AreApart a b → drop i a ≡ x ∷ more_a → drop j b ≡ y ∷ more_b
+    → (x.node == y.node) ≡ false
 nodes_apart a b i j x y more_a more_b apart ea eb = elim (at_node x.node y.node) [
   | away e ↦ e
   | at e ↦ absurd (clash (apart y.node) e)
 ]
   where
     clash : (journal y.node a ≡ []) ⊎ (journal y.node b ≡ []) → x.node ≡ y.node → ⊥
-    clash (inl none) e = no_cons x.what (journal y.node more_a) (sym (head_at x more_a y.node e) ∙ sym (ap (journal y.node) ea) ∙ none_behind y.node i a none)
-    clash (inr none) e = no_cons y.what (journal y.node more_b) (sym (head_at y more_b y.node refl) ∙ sym (ap (journal y.node) eb) ∙ none_behind y.node j b none)
+    clash (inl none) e = no_cons x.what (journal y.node more_a)
+        (sym (head_at x more_a y.node e) ∙ sym (ap (journal y.node) ea) ∙ none_behind y.node i a none)
+    clash (inr none) e = no_cons y.what (journal y.node more_b)
+        (sym (head_at y more_b y.node refl) ∙ sym (ap (journal y.node) eb) ∙ none_behind y.node j b none)
 
 -- the next row is taken from the first list
 pub take_left : (a b rows : List Row) (i j : ℕ) (x y : Row) → MergedUpTo a b rows i j → i < length a → j < length b
@@ -55,7 +61,8 @@ take_left a b rows i j x y m la lb ex ey g =
       left = omega arith;
       right = m.right;
       journals = λ apart n.
-          let jx : journal n (x ∷ []) ++ journal n (drop (i + 1) a) ≡ journal n (drop i a) = sym (journal-append n (x ∷ []) (drop (i + 1) a)) ∙ ap (journal n) (sym ea) in
+          let jx : journal n (x ∷ []) ++ journal n (drop (i + 1) a) ≡ journal n (drop i a) =
+          sym (journal-append n (x ∷ []) (drop (i + 1) a)) ∙ ap (journal n) (sym ea) in
           ap (λ J. J ++ (journal n (drop (i + 1) a) ++ journal n (drop j b))) (journal-append n rows (x ∷ []))
           ∙ move (journal n rows) (journal n (x ∷ [])) (journal n (drop (i + 1) a)) (journal n (drop j b))
           ∙ ap (λ J. journal n rows ++ (J ++ journal n (drop j b))) jx ∙ m.journals apart n;
@@ -81,7 +88,8 @@ take_right a b rows i j x y m la lb ex ey g =
       left = m.left;
       right = omega arith;
       journals = λ apart n.
-          let jy : journal n (y ∷ []) ++ journal n (drop (j + 1) b) ≡ journal n (drop j b) = sym (journal-append n (y ∷ []) (drop (j + 1) b)) ∙ ap (journal n) (sym eb) in
+          let jy : journal n (y ∷ []) ++ journal n (drop (j + 1) b) ≡ journal n (drop j b) =
+          sym (journal-append n (y ∷ []) (drop (j + 1) b)) ∙ ap (journal n) (sym eb) in
           ap (λ J. J ++ (journal n (drop i a) ++ journal n (drop (j + 1) b))) (journal-append n rows (y ∷ []))
           ∙ past (journal n rows) (journal n (y ∷ [])) (journal n (drop i a)) (journal n (drop (j + 1) b)) (one_none n (apart n) jy)
           ∙ ap (λ J. journal n rows ++ (journal n (drop i a) ++ J)) jy ∙ m.journals apart n;
@@ -107,7 +115,8 @@ take_right a b rows i j x y m la lb ex ey g =
 
 -- what is left of the one list, when the other is at its end
 pub finish : (a b rows : List Row) (i j : ℕ) → MergedUpTo a b rows i j → (length a ≤ i) ⊎ (length b ≤ j) → AreApart a b
-    → ((n : ℕ) → journal n ((rows ++ drop i a) ++ drop j b) ≡ journal n a ++ journal n b) × (RiseAll a → RiseAll b → RiseAll ((rows ++ drop i a) ++ drop j b))
+    → ((n : ℕ) → journal n ((rows ++ drop i a) ++ drop j b) ≡ journal n a ++ journal n b)
+    × (RiseAll a → RiseAll b → RiseAll ((rows ++ drop i a) ++ drop j b))
 finish a b rows i j m ends apart = (
   λ n. journal-append n (rows ++ drop i a) (drop j b) ∙ ap (λ J. J ++ journal n (drop j b)) (journal-append n rows (drop i a))
       ∙ append_assoc (journal n rows) (journal n (drop i a)) (journal n (drop j b)) ∙ m.journals apart n,
@@ -137,20 +146,23 @@ ranges_apart all low middle high a b ha hb n = elim (nat_lt n middle) as (λ c. 
 
 pub ranges_joined : (all : List (List Record)) (low middle high n : ℕ) → low ≤ middle → middle ≤ high
     → journals_below all low middle n ++ journals_below all middle high n ≡ journals_below all low high n
-ranges_joined all low middle high n lm mh = elim (nat_lt n middle) as (λ c. nat_lt n middle ≡ c → journals_below all low middle n ++ journals_below all middle high n ≡ journals_below all low high n) [
-  | true ↦ λ e. left_side (journal_in all n) e
-  | false ↦ λ e. right_side (journal_in all n) e
-] refl
+ranges_joined all low middle high n lm mh = elim (nat_lt n middle) as
+    (λ c. nat_lt n middle ≡ c → journals_below all low middle n ++ journals_below all middle high n ≡ journals_below all low high n) [
+      | true ↦ λ e. left_side (journal_in all n) e
+      | false ↦ λ e. right_side (journal_in all n) e
+    ] refl
   where
     left_side : (J : List Record) → nat_lt n middle ≡ true
-        → (if not (nat_lt n low) && nat_lt n middle then J else []) ++ (if not (nat_lt n middle) && nat_lt n high then J else []) ≡ (if not (nat_lt n low) && nat_lt n high then J else [])
+        → (if not (nat_lt n low) && nat_lt n middle then J else []) ++ (if not (nat_lt n middle) && nat_lt n high then J else [])
+        ≡ (if not (nat_lt n low) && nat_lt n high then J else [])
     left_side J e =
         let f : (if not (nat_lt n middle) && nat_lt n high then J else []) ≡ [] = grind arith in
         let g : (if not (nat_lt n low) && nat_lt n middle then J else []) ≡ (if not (nat_lt n low) && nat_lt n high then J else []) = grind arith in
         rw f (append-nil _ ∙ g)
 
     right_side : (J : List Record) → nat_lt n middle ≡ false
-        → (if not (nat_lt n low) && nat_lt n middle then J else []) ++ (if not (nat_lt n middle) && nat_lt n high then J else []) ≡ (if not (nat_lt n low) && nat_lt n high then J else [])
+        → (if not (nat_lt n low) && nat_lt n middle then J else []) ++ (if not (nat_lt n middle) && nat_lt n high then J else [])
+        ≡ (if not (nat_lt n low) && nat_lt n high then J else [])
     right_side J e =
         let f : (if not (nat_lt n low) && nat_lt n middle then J else []) ≡ [] = grind arith in
         let g : (if not (nat_lt n middle) && nat_lt n high then J else []) ≡ (if not (nat_lt n low) && nat_lt n high then J else []) = grind arith in
@@ -158,10 +170,11 @@ ranges_joined all low middle high n lm mh = elim (nat_lt n middle) as (λ c. nat
 
 -- the journals of all nodes
 pub all_nodes : (all : List (List Record)) (n : ℕ) → journals_below all 0 (length all) n ≡ journal_in all n
-all_nodes all n = elim (nat_lt n (length all)) as (λ c. nat_lt n (length all) ≡ c → (if not (nat_lt n 0) && c then journal_in all n else []) ≡ journal_in all n) [
-  | true ↦ λ e. grind arith
-  | false ↦ λ e. beyond all n (outside n (length all) e)
-] refl
+all_nodes all n = elim (nat_lt n (length all)) as
+    (λ c. nat_lt n (length all) ≡ c → (if not (nat_lt n 0) && c then journal_in all n else []) ≡ journal_in all n) [
+      | true ↦ λ e. grind arith
+      | false ↦ λ e. beyond all n (outside n (length all) e)
+    ] refl
   where
     outside : (n m : ℕ) → nat_lt n m ≡ false → m ≤ n
     outside n m e = grind arith

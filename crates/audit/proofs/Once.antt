@@ -1,5 +1,6 @@
 -- Of transactions that can be spent in turn, each with an input, no coin is made twice and none is spent twice.
-use Rattle.std.proofs.Common.{◌≡◌, inl, inr, ℕ, suc, ◌+◌, ◌-◌, ◌<◌, ◌≤◌, true, false, cond, List, [], ◌∷◌, ◌++◌, map, length, Option, Some, None, refl, sym, ap, ◌∙◌, subst, arith}
+use Rattle.std.proofs.Common.{◌≡◌, inl, inr, ℕ, suc, ◌+◌, ◌-◌, ◌<◌, ◌≤◌, true, false, cond, List, [], ◌∷◌, ◌++◌, map, length, Option, Some, None}
+use Rattle.std.proofs.Common.{refl, sym, ap, ◌∙◌, subst, arith}
 use Rattle.std.specs.FinMap as book
 use Rattle.std.specs.Ordering.{nat_cmp}
 use Rattle.std.specs.Cmp.Lexicographic.{slice_cmp}
@@ -25,20 +26,32 @@ made_of ts x = count x (all_outputs (map compact ts))
 
 pub inputs-append : (x : Digest) (ts us : List Compact) → count x (all_inputs (ts ++ us)) ≡ count x (all_inputs ts) + count x (all_inputs us)
 inputs-append x [] us = omega arith
-inputs-append x (t ∷ ts) us = omega (arith, count-append x t.inputs (all_inputs (ts ++ us)), count-append x t.inputs (all_inputs ts), inputs-append x ts us)
+inputs-append x (t ∷ ts) us = omega (
+  arith,
+  count-append x t.inputs (all_inputs (ts ++ us)),
+  count-append x t.inputs (all_inputs ts),
+  inputs-append x ts us,
+)
 
 pub outputs-append : (x : Digest) (ts us : List Compact) → count x (all_outputs (ts ++ us)) ≡ count x (all_outputs ts) + count x (all_outputs us)
 outputs-append x [] us = omega arith
-outputs-append x (t ∷ ts) us = omega (arith, count-append x t.outputs (all_outputs (ts ++ us)), count-append x t.outputs (all_outputs ts), outputs-append x ts us)
+outputs-append x (t ∷ ts) us = omega (
+  arith,
+  count-append x t.outputs (all_outputs (ts ++ us)),
+  count-append x t.outputs (all_outputs ts),
+  outputs-append x ts us,
+)
 
 spent_more : (ts : List FullTx) (t : FullTx) (x : Digest) → spent_of (ts ++ t ∷ []) x ≡ spent_of ts x + count x (hashes_of t.inputs)
 spent_more ts t x =
-    let e : count x (all_inputs (map compact (ts ++ t ∷ []))) ≡ count x (all_inputs (map compact ts ++ compact t ∷ [])) = ap (λ ks. count x (all_inputs ks)) (map-append compact ts (t ∷ [])) in
+    let e : count x (all_inputs (map compact (ts ++ t ∷ []))) ≡ count x (all_inputs (map compact ts ++ compact t ∷ [])) =
+    ap (λ ks. count x (all_inputs ks)) (map-append compact ts (t ∷ [])) in
     omega (arith, e, inputs-append x (map compact ts) (compact t ∷ []), count-append x (hashes_of t.inputs) [])
 
 made_more : (ts : List FullTx) (t : FullTx) (x : Digest) → made_of (ts ++ t ∷ []) x ≡ made_of ts x + count x (hashes_of (tx_coins t))
 made_more ts t x =
-    let e : count x (all_outputs (map compact (ts ++ t ∷ []))) ≡ count x (all_outputs (map compact ts ++ compact t ∷ [])) = ap (λ ks. count x (all_outputs ks)) (map-append compact ts (t ∷ [])) in
+    let e : count x (all_outputs (map compact (ts ++ t ∷ []))) ≡ count x (all_outputs (map compact ts ++ compact t ∷ [])) =
+    ap (λ ks. count x (all_outputs ks)) (map-append compact ts (t ∷ [])) in
     omega (arith, e, outputs-append x (map compact ts) (compact t ∷ []), count-append x (hashes_of (tx_coins t)) [])
 
 same_output_is : (o p : Output) → same_output o p ≡ true → o ≡ p
@@ -58,7 +71,12 @@ same_coin d c p o =
 made_total : (f : Output → ℕ) (id : Digest) (k : ℕ) (os : List Output) → sum_in f (made_coins id k os) ≡ sum_out f os
 made_total f id k [] = refl
 made_total f id k (o ∷ os) =
-    omega (arith, sum_by-cons (λ c. f c.output) (record { point = record { tx = id; index = k }; output = o }) (made_coins id (suc k) os), sum_by-cons f o os, made_total f id (suc k) os)
+    omega (
+      arith,
+      sum_by-cons (λ c. f c.output) (record { point = record { tx = id; index = k }; output = o }) (made_coins id (suc k) os),
+      sum_by-cons f o os,
+      made_total f id (suc k) os,
+    )
 
 no_book : {A : Type 0} (b : Book) → None ≡ Some b → A
 no_book b e = absurd (let z : None ≡ Some b = e in cc)
@@ -73,10 +91,20 @@ pub record Maker (ts : List FullTx) (x : Digest) : Type 0 where
 pub maker_in : (ts : List FullTx) (x : Digest) → 0 < made_of ts x → Maker ts x
 maker_in [] x n = absurd (omega arith)
 maker_in (t ∷ ts) x n = elim (none_or_some (count x (hashes_of (tx_coins t)))) [
-  | some here ↦ record { tx = t; inside = inl refl; makes = here; takes = λ y. omega (arith, count-append y (hashes_of t.inputs) (all_inputs (map compact ts))) }
+  | some here ↦ record {
+    tx = t;
+    inside = inl refl;
+    makes = here;
+    takes = λ y. omega (arith, count-append y (hashes_of t.inputs) (all_inputs (map compact ts)));
+  }
   | none z ↦
       let m : Maker ts x = maker_in ts x (omega (arith, count-append x (hashes_of (tx_coins t)) (all_outputs (map compact ts)))) in
-      record { tx = m.tx; inside = inr m.inside; makes = m.makes; takes = λ y. omega (arith, m.takes y, count-append y (hashes_of t.inputs) (all_inputs (map compact ts))) }
+      record {
+        tx = m.tx;
+        inside = inr m.inside;
+        makes = m.makes;
+        takes = λ y. omega (arith, m.takes y, count-append y (hashes_of t.inputs) (all_inputs (map compact ts)));
+      }
 ]
 
 module _ (mint : List Output) (handed : List FullTx) (clean : Clean mint handed) where
@@ -101,7 +129,8 @@ module _ (mint : List Output) (handed : List FullTx) (clean : Clean mint handed)
     stands : StandsFor r (λ x. β x - count x (hashes_of cs))
     flow : (f : Output → ℕ) → total f b ≡ sum_in f cs + total f r
 
-  take_first : (b : Book) (c : Coin) (cs : List Coin) (r : Book) (o : Option Output) → book.get b (point_of c) ≡ o → take_all (taken b c o) cs ≡ Some r
+  take_first : (b : Book) (c : Coin) (cs : List Coin) (r : Book) (o : Option Output) → book.get b (point_of c) ≡ o
+      → take_all (taken b c o) cs ≡ Some r
       → (book.get b (point_of c) ≡ Some c.output) × (take_all (Some (book.remove b (point_of c))) cs ≡ Some r)
   take_first b c cs r None e h = no_book r h
   take_first b c cs r (Some o) e h =
@@ -114,7 +143,8 @@ module _ (mint : List Output) (handed : List FullTx) (clean : Clean mint handed)
   no_coins : (f : Output → ℕ) (b r : Book) → total f b ≡ total f r → total f b ≡ sum_in f [] + total f r
   no_coins f b r e = omega (arith, e)
 
-  took : (cs : List Coin) (b r : Book) (β : Digest → ℕ) → StandsFor b β → EachCoin (IsNamed mint handed) cs → ((x : Digest) → β x ≤ 1) → take_all (Some b) cs ≡ Some r → Took b cs β r
+  took : (cs : List Coin) (b r : Book) (β : Digest → ℕ) → StandsFor b β → EachCoin (IsNamed mint handed) cs → ((x : Digest) → β x ≤ 1)
+      → take_all (Some b) cs ≡ Some r → Took b cs β r
   took [] b r β st each once h =
       let e : b ≡ r = cc in
       record {
@@ -123,22 +153,27 @@ module _ (mint : List Output) (handed : List FullTx) (clean : Clean mint handed)
         flow = λ f. no_coins f b r (ap (total f) e);
       }
   took (c ∷ cs) b r β st each once h =
-      let first : (book.get b (point_of c) ≡ Some c.output) × (take_all (Some (book.remove b (point_of c))) cs ≡ Some r) = take_first b c cs r (book.get b (point_of c)) refl h in
+      let first : (book.get b (point_of c) ≡ Some c.output)
+      × (take_all (Some (book.remove b (point_of c))) cs ≡ Some r) = take_first b c cs r (book.get b (point_of c)) refl h in
       let here : 0 < β (coin_hash c) = counted_in b β c st first.0 in
       let γ : Digest → ℕ = λ x. β x - count x (coin_hash c ∷ []) in
       let one : count (coin_hash c) (coin_hash c ∷ []) ≡ 1 = count-cons_same (coin_hash c) (coin_hash c) [] refl in
-      let left = take_one (coins_apart mint handed clean) b β γ c st each.0 (omega (arith, once (coin_hash c))) (omega (arith, one, once (coin_hash c)))
+      let left = take_one (coins_apart mint handed clean) b β γ c st each.0 (omega (arith, once (coin_hash c)))
+      (omega (arith, one, once (coin_hash c)))
       (λ x n. let z : count x (coin_hash c ∷ []) ≡ 0 = count-cons_other x (coin_hash c) [] (λ e. n (sym e)) in omega arith) in
-      let rest : Took (book.remove b (point_of c)) cs γ r = took cs (book.remove b (point_of c)) r γ left.1 each.1 (λ x. omega (arith, once x)) first.1 in
+      let rest : Took (book.remove b (point_of c)) cs γ r =
+      took cs (book.remove b (point_of c)) r γ left.1 each.1 (λ x. omega (arith, once x)) first.1 in
       record {
         enough = λ x. enough_both x (rest.enough x) here;
         stands = stands_same (coins_apart mint handed clean) r _ _ (λ x. omega arith) rest.stands;
         flow = λ f. omega (arith, left.2 f, rest.flow f, sum_by-cons (λ d. f d.output) c cs);
       }
     where
-      enough_both : (x : Digest) → count x (hashes_of cs) ≤ β x - count x (coin_hash c ∷ []) → 0 < β (coin_hash c) → count x (hashes_of (c ∷ cs)) ≤ β x
+      enough_both : (x : Digest) → count x (hashes_of cs) ≤ β x - count x (coin_hash c ∷ []) → 0 < β (coin_hash c)
+          → count x (hashes_of (c ∷ cs)) ≤ β x
       enough_both x le here = elim (digests (coin_hash c) x) [
-        | inl e ↦ let k : 0 < β x = subst (λ y. 0 < β y) e here in omega (arith, count-cons_same x (coin_hash c) [] e, count-cons_same x (coin_hash c) (hashes_of cs) e)
+        | inl e ↦ let k : 0 < β x = subst (λ y. 0 < β y) e here in
+            omega (arith, count-cons_same x (coin_hash c) [] e, count-cons_same x (coin_hash c) (hashes_of cs) e)
         | inr n ↦ omega (arith, count-cons_other x (coin_hash c) [] n, count-cons_other x (coin_hash c) (hashes_of cs) n)
       ]
 
@@ -151,12 +186,15 @@ module _ (mint : List Output) (handed : List FullTx) (clean : Clean mint handed)
   each_made t m (c ∷ cs) all = (made_is mint handed clean t c m (all c (inl refl)), each_made t m cs (λ d h. all d (inr h)))
 
   -- transactions that share an output's hash have the same inputs
-  same_inputs : (t u : FullTx) → IsMember mint handed t → IsMember mint handed u → (x : Digest) → 0 < count x (hashes_of (tx_coins t)) → 0 < count x (hashes_of (tx_coins u)) → t.inputs ≡ u.inputs
+  same_inputs : (t u : FullTx) → IsMember mint handed t → IsMember mint handed u → (x : Digest) → 0 < count x (hashes_of (tx_coins t))
+      → 0 < count x (hashes_of (tx_coins u)) → t.inputs ≡ u.inputs
   same_inputs t u m n x h g =
       let c : CoinAt (tx_coins t) x = coin_at (tx_coins t) x h in
       let d : CoinAt (tx_coins u) x = coin_at (tx_coins u) x g in
-      let same : c.coin ≡ d.coin = clean.hashes c.coin d.coin (t, m, inr (contains_in (tx_coins t) c.coin c.inside)) (u, n, inr (contains_in (tx_coins u) d.coin d.inside)) (c.hash ∙ sym d.hash) in
-      (clean.ids t u m n (sym (made_tx (tx_id t) 0 t.outputs c.coin c.inside).0 ∙ ap (λ e. e.point.tx) same ∙ (made_tx (tx_id u) 0 u.outputs d.coin d.inside).0)).0
+      let same : c.coin ≡ d.coin = clean.hashes c.coin d.coin (t, m, inr (contains_in (tx_coins t) c.coin c.inside))
+      (u, n, inr (contains_in (tx_coins u) d.coin d.inside)) (c.hash ∙ sym d.hash) in
+      (clean.ids t u m n (sym (made_tx (tx_id t) 0 t.outputs c.coin c.inside).0 ∙ ap (λ e. e.point.tx) same
+      ∙ (made_tx (tx_id u) 0 u.outputs d.coin d.inside).0)).0
 
   -- what holds of the transactions spent so far and the book that they leave
   pub record SoFar (ts : List FullTx) (b : Book) : Type 0 where
@@ -181,8 +219,10 @@ module _ (mint : List Output) (handed : List FullTx) (clean : Clean mint handed)
   next_so_far ts b e t so member some_in h =
       let l : (c : Book) × (take_all (Some b) t.inputs ≡ Some c) × (put_all c (tx_coins t) ≡ e) = left_of (take_all (Some b) t.inputs) t e h in
       let β : Digest → ℕ = λ x. (minted_of x + made_of ts x) - spent_of ts x in
-      let took_all : Took b t.inputs β l.0 = took t.inputs b l.0 β so.stands (each_named t member t.inputs (λ c i. i)) (λ x. omega (arith, so.once x)) l.1 in
-      let put = put_all_stands (coins_apart mint handed clean) (tx_coins t) l.0 (λ x. β x - count x (hashes_of t.inputs)) took_all.stands (each_made t member (tx_coins t) (λ c i. i))
+      let took_all : Took b t.inputs β l.0 = took t.inputs b l.0 β so.stands (each_named t member t.inputs (λ c i. i))
+      (λ x. omega (arith, so.once x)) l.1 in
+      let put = put_all_stands (coins_apart mint handed clean) (tx_coins t) l.0 (λ x. β x - count x (hashes_of t.inputs)) took_all.stands
+      (each_made t member (tx_coins t) (λ c i. i))
       (λ x. room x (λ y. took_all.enough y)) in (
         record {
           stands = subst (λ d. StandsFor d (λ x. (minted_of x + made_of (ts ++ t ∷ []) x) - spent_of (ts ++ t ∷ []) x)) l.2
@@ -258,11 +298,13 @@ module _ (mint : List Output) (handed : List FullTx) (clean : Clean mint handed)
     found = λ c n k. absurd (omega arith);
   }
 
-  mint_stands : StandsFor (genesis_book mint) (λ x. 0 + count x (hashes_of (tx_coins (genesis_tx mint)))) × ((f : Output → ℕ) → total f (genesis_book mint) ≡ sum_in f (tx_coins (genesis_tx mint)) + total f book.empty)
+  mint_stands : StandsFor (genesis_book mint) (λ x. 0 + count x (hashes_of (tx_coins (genesis_tx mint))))
+      × ((f : Output → ℕ) → total f (genesis_book mint) ≡ sum_in f (tx_coins (genesis_tx mint)) + total f book.empty)
   mint_stands =
       let member : IsMember mint handed (genesis_tx mint) = genesis_member mint handed clean in
       put_all_stands (coins_apart mint handed clean) (tx_coins (genesis_tx mint)) book.empty (λ x. 0) empty_stands
-      (each_made (genesis_tx mint) member (tx_coins (genesis_tx mint)) (λ c i. i)) (λ x. omega (arith, tx_coins_once mint handed clean (genesis_tx mint) member x))
+      (each_made (genesis_tx mint) member (tx_coins (genesis_tx mint)) (λ c i. i))
+      (λ x. omega (arith, tx_coins_once mint handed clean (genesis_tx mint) member x))
 
   -- the book that a mint is has its value
   pub mint_worth : value (genesis_book mint) ≡ value_out mint
@@ -282,12 +324,14 @@ module _ (mint : List Output) (handed : List FullTx) (clean : Clean mint handed)
   fold_so_far ts e ready h = all_so_far ts [] (genesis_book mint) e minted_so_far ready h
 
   -- by any measure what is left and what was taken come to what there was and what was made
-  all_flow : (f : Output → ℕ) (us ts : List FullTx) (b e : Book) → SoFar ts b → AreReady us → fold_txs (Some b) us ≡ Some e → total f e + taken_sum f us ≡ total f b + made_sum f us
+  all_flow : (f : Output → ℕ) (us ts : List FullTx) (b e : Book) → SoFar ts b → AreReady us → fold_txs (Some b) us ≡ Some e
+      → total f e + taken_sum f us ≡ total f b + made_sum f us
   all_flow f [] ts b e so ready h = let same : b ≡ e = cc in ap (λ c. total f c + taken_sum f []) (sym same)
   all_flow f (u ∷ us) ts b e so ready h =
       let s : (c : Book) × (spend b u ≡ Some c) = step_of (spend b u) us e h in
       let n = next_so_far ts b s.0 u so ready.0 ready.1 s.1 in
-      let rest : total f e + taken_sum f us ≡ total f s.0 + made_sum f us = all_flow f us (ts ++ u ∷ []) s.0 e n.0 ready.2 (ap (λ r. fold_txs r us) (sym s.1) ∙ h) in
+      let rest : total f e + taken_sum f us ≡ total f s.0 + made_sum f us =
+      all_flow f us (ts ++ u ∷ []) s.0 e n.0 ready.2 (ap (λ r. fold_txs r us) (sym s.1) ∙ h) in
       omega (arith, rest, n.1 f, sum_by-cons (λ t. sum_in f t.inputs) u us, sum_by-cons (λ t. sum_out f t.outputs) u us)
 
   pub fold_flow : (ts : List FullTx) (e : Book) → AreReady ts → fold_txs (Some (genesis_book mint)) ts ≡ Some e
@@ -302,4 +346,10 @@ EachBalanced (t ∷ ts) = (value_in t.inputs ≡ value_out t.outputs) × EachBal
 pub all_balanced : (ts : List FullTx) → EachBalanced ts → taken_sum (λ o. o.value) ts ≡ made_sum (λ o. o.value) ts
 all_balanced [] balanced = refl
 all_balanced (t ∷ ts) balanced =
-    omega (arith, balanced.0, all_balanced ts balanced.1, sum_by-cons (λ u. sum_in (λ o. o.value) u.inputs) t ts, sum_by-cons (λ u. sum_out (λ o. o.value) u.outputs) t ts)
+    omega (
+      arith,
+      balanced.0,
+      all_balanced ts balanced.1,
+      sum_by-cons (λ u. sum_in (λ o. o.value) u.inputs) t ts,
+      sum_by-cons (λ u. sum_out (λ o. o.value) u.outputs) t ts,
+    )

@@ -23,13 +23,18 @@ module _ (K : Shape) (m : Minted) where
   starts_ordered zero = tt
   starts_ordered (suc n) = (starts_below n (Start (header_of K m.id n)) n (omega arith) refl, starts_ordered n)
 
-  geneses_below : (node : ℕ) (r : Record) (s : ℕ) → K.coordinators + s ≤ node → stamp_of r ≡ 0 → IsAbove (record { node = node; what = r }) (geneses K m s ++ starts K m K.coordinators)
+  geneses_below : (node : ℕ) (r : Record) (s : ℕ) → K.coordinators + s ≤ node → stamp_of r ≡ 0
+      → IsAbove (record { node = node; what = r }) (geneses K m s ++ starts K m K.coordinators)
   geneses_below node r zero le e = starts_below node r K.coordinators (omega arith) e
-  geneses_below node r (suc s) le e = subst (λ q. (nat_lt 0 q || ((0 == q) && nat_lt (K.coordinators + s) node)) ≡ true) (sym e) (same_stamp node (K.coordinators + s) (omega arith))
+  geneses_below node r (suc s) le e = subst (λ q. (nat_lt 0 q || ((0 == q) && nat_lt (K.coordinators + s) node)) ≡ true) (sym e)
+      (same_stamp node (K.coordinators + s) (omega arith))
 
   geneses_ordered : (s : ℕ) → IsOrdered (geneses K m s ++ starts K m K.coordinators)
   geneses_ordered zero = starts_ordered K.coordinators
-  geneses_ordered (suc s) = (geneses_below (shard_node K s) (Genesis (header_of K m.id (shard_node K s)) (on_shard K.shards s m.hashes)) s (omega arith) refl, geneses_ordered s)
+  geneses_ordered (suc s) = (
+    geneses_below (shard_node K s) (Genesis (header_of K m.id (shard_node K s)) (on_shard K.shards s m.hashes)) s (omega arith) refl,
+    geneses_ordered s,
+  )
 
   -- a later row goes above them
   stamped : (node : ℕ) (J : List Record) (r : Record) → After (header_of K m.id node) J r → Next K node J r → 0 < stamp_of r
@@ -53,10 +58,14 @@ module _ (K : Shape) (m : Minted) where
 
   whole_ordered : (later : List Row) → AllAfter K m later → IsOrdered later → IsOrdered (later ++ first_rows K m)
   whole_ordered [] after o = geneses_ordered K.shards
-  whole_ordered (row ∷ []) after o =
-      (above_first row K.shards (stamped row.node (journal row.node (first_rows K m)) row.what after.0 (next_at K m (λ k. Unit {0}) [] row.node row.what after.0)), geneses_ordered K.shards)
+  whole_ordered (row ∷ []) after o = (
+    above_first row K.shards (stamped row.node (journal row.node (first_rows K m)) row.what after.0
+        (next_at K m (λ k. Unit {0}) [] row.node row.what after.0)),
+    geneses_ordered K.shards,
+  )
   whole_ordered (row ∷ (next ∷ later)) after o = (o.0, whole_ordered (next ∷ later) after.1 o.1)
 
 pub ordered_rows : OrderedLaw
 ordered_rows K mint J later rows after history o same =
-    one_history rows (history_of K mint later) o (whole_ordered K (minted mint) later after history.ordered) (λ n. same n ∙ sym (history.journals_are n))
+    one_history rows (history_of K mint later) o (whole_ordered K (minted mint) later after history.ordered)
+    (λ n. same n ∙ sym (history.journals_are n))

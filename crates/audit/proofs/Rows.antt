@@ -1,5 +1,6 @@
 -- Rows and the journals that they have.
-use Rattle.std.proofs.Common.{◌≡◌, ◌+◌, ◌<◌, ℕ, true, false, not, ◌&&◌, ◌||◌, ◌==◌, nat_lt, List, [], ◌∷◌, reverse, if◌then◌else◌, refl, sym, ap, ◌∙◌, arith}
+use Rattle.std.proofs.Common.{◌≡◌, ◌+◌, ◌<◌, ℕ, true, false, not, ◌&&◌, ◌||◌, ◌==◌, nat_lt, List, [], ◌∷◌, reverse, if◌then◌else◌, refl, sym, ap, ◌∙◌}
+use Rattle.std.proofs.Common.{arith}
 use mathlib.Core.List.{reverse_aux}
 use Rattle.std.proofs.lemmas.List.Elements.{All-head}
 use Rattle.cbdc_model.specs.Records.{Record, Row, journal, stamp_of}
@@ -18,7 +19,8 @@ pub own_away : (node n : ℕ) (records : List Record) → (node == n) ≡ false 
 own_away node n [] e = refl
 own_away node n (r ∷ records) e = head_away (record { node = node; what = r }) (rows_of_node node records) n e ∙ own_away node n records e
 
-pub own_journals : (all : List (List Record)) (node n : ℕ) → journal n (rows_of_node node (journal_in all node)) ≡ journals_below all node (node + 1) n
+pub own_journals : (all : List (List Record)) (node n : ℕ)
+    → journal n (rows_of_node node (journal_in all node)) ≡ journals_below all node (node + 1) n
 own_journals all node n = elim (at_node node n) [
   | at e ↦ own_at node n (journal_in all node) e ∙ ap (journal_in all) e ∙ sym (within (journal_in all n) node n e)
   | away e ↦ own_away node n (journal_in all node) e ∙ sym (outside (journal_in all n) node n e)

@@ -1,10 +1,13 @@
 -- Which hashes are held and owed, row by row, and that those are the waiting and the coming ones.
-use Rattle.std.proofs.Common.{◌≡◌, ◌⊎◌, inl, inr, ℕ, ◌+◌, ◌<◌, Bool, true, false, not, cond, ◌&&◌, ◌||◌, ◌==◌, List, [], ◌∷◌, ◌++◌, length, drop, find, reverse, if◌then◌else◌, Option, Some, None, is_some, refl, sym, ap, ◌∙◌, subst}
+use Rattle.std.proofs.Common.{◌≡◌, ◌⊎◌, inl, inr, ℕ, ◌+◌, ◌<◌, Bool, true, false, not, cond, ◌&&◌, ◌||◌, ◌==◌, List, [], ◌∷◌, ◌++◌, length, drop}
+use Rattle.std.proofs.Common.{find, reverse, if◌then◌else◌, Option, Some, None, is_some, refl, sym, ap, ◌∙◌, subst}
 use mathlib.Core.List.{reverse_aux}
 use Rattle.std.specs.Prelude.{MatchOption}
 use Rattle.std.specs.Borrow.{Bor}
 use Rattle.std.proofs.lemmas.Bool.{cases_lt}
-use Rattle.cbdc_model.specs.Records.{Digest, same_digest, Shape, Batch, Compact, Outcome, Answered, Record, Row, journal, record_of, entries_in, txs_in, outcomes_in, lock_of, txs_of, outcomes_of, is_held, kind_of, is_of, same_batch, Genesis, Lock, Finish, Forget, Start, Prepare, Commit, Discard, Done, lock_kind, commit_kind, finish_kind}
+use Rattle.cbdc_model.specs.Records.{Digest, same_digest, Shape, Batch, Compact, Outcome, Answered, Record, Row, journal, record_of, entries_in}
+use Rattle.cbdc_model.specs.Records.{txs_in, outcomes_in, lock_of, txs_of, outcomes_of, is_held, kind_of, is_of, same_batch, Genesis, Lock, Finish}
+use Rattle.cbdc_model.specs.Records.{Forget, Start, Prepare, Commit, Discard, Done, lock_kind, commit_kind, finish_kind}
 use Rattle.cbdc_model.specs.Status.{Status, status, has, Unspent, Locked, Absent}
 use Rattle.cbdc_model.specs.Ranges.{shard_of, shard_node, home_of, journal_at, lane_journal}
 use Rattle.cbdc_model.specs.Outcomes.{won_at, won_txs}
@@ -53,18 +56,21 @@ or_assoc true b c = refl
 or_assoc false b c = refl
 
 -- what is not found is missing
-pub is_missing : (q : Option (Bor Record)) (r : Option Record) (none : Bool) → MatchOption q (r ≡ None) (λ b. r ≡ Some b.now) → is_some q ≡ not none → none ≡ true → not (is_some r) ≡ true
+pub is_missing : (q : Option (Bor Record)) (r : Option Record) (none : Bool) → MatchOption q (r ≡ None) (λ b. r ≡ Some b.now) → is_some q ≡ not none
+    → none ≡ true → not (is_some r) ≡ true
 is_missing None r none m e t = ap (λ o. not (is_some o)) m
 is_missing (Some b) r none m e t = absurd (let z : true ≡ false = e ∙ ap not t in cc)
 
-pub is_found : (q : Option (Bor Record)) (r : Option Record) (none : Bool) → MatchOption q (r ≡ None) (λ b. r ≡ Some b.now) → is_some q ≡ not none → none ≡ false → not (is_some r) ≡ false
+pub is_found : (q : Option (Bor Record)) (r : Option Record) (none : Bool) → MatchOption q (r ≡ None) (λ b. r ≡ Some b.now) → is_some q ≡ not none
+    → none ≡ false → not (is_some r) ≡ false
 is_found None r none m e t = absurd (let z : false ≡ true = e ∙ ap not t in cc)
 is_found (Some b) r none m e t = ap (λ o. not (is_some o)) m
 
 -- ---- sets that grow
 
 -- by one hash that passes
-pub add_step : (t : Digest → Bool) (x y : Digest) (rest old new : Bool) → ((z : Digest) → same_digest x z ≡ true → t z ≡ true) → new ≡ (same_digest x y || old)
+pub add_step : (t : Digest → Bool) (x y : Digest) (rest old new : Bool) → ((z : Digest) → same_digest x z ≡ true → t z ≡ true)
+    → new ≡ (same_digest x y || old)
     → (new || (rest && t y)) ≡ (old || ((same_digest x y || rest) && t y))
 add_step t x y rest old new passes is =
     elim (same_digest x y) as (λ c. same_digest x y ≡ c → new ≡ (c || old) → (new || (rest && t y)) ≡ (old || ((c || rest) && t y))) [
@@ -77,7 +83,8 @@ add_step t x y rest old new passes is =
     yes false r u e n = ap (λ b. b || (r && u)) n ∙ sym e
 
 -- by none, where a hash does not pass
-pub pass_step : (t : Digest → Bool) (x y : Digest) (rest old : Bool) → ((z : Digest) → same_digest x z ≡ true → t z ≡ false) → (old || (rest && t y)) ≡ (old || ((same_digest x y || rest) && t y))
+pub pass_step : (t : Digest → Bool) (x y : Digest) (rest old : Bool) → ((z : Digest) → same_digest x z ≡ true → t z ≡ false)
+    → (old || (rest && t y)) ≡ (old || ((same_digest x y || rest) && t y))
 pass_step t x y rest old fails =
     elim (same_digest x y) as (λ c. same_digest x y ≡ c → (old || (rest && t y)) ≡ (old || ((c || rest) && t y))) [
       | true ↦ λ e. ap (λ b. old || b) (no rest (t y) (fails y e))
@@ -89,13 +96,17 @@ pass_step t x y rest old fails =
     no false u e = sym e
 
 -- of a list of hashes
-pub add_found : (t : Digest → Bool) (x y : Digest) (xs later : List Digest) (old new : Bool) → xs ≡ x ∷ later → t x ≡ true → new ≡ (same_digest x y || old) → (new || (has later y && t y)) ≡ (old || (has xs y && t y))
+pub add_found : (t : Digest → Bool) (x y : Digest) (xs later : List Digest) (old new : Bool) → xs ≡ x ∷ later → t x ≡ true
+    → new ≡ (same_digest x y || old) → (new || (has later y && t y)) ≡ (old || (has xs y && t y))
 add_found t x y xs later old new cut passes is =
-    add_step t x y (has later y) old new (λ z e. subst (λ w. t w ≡ true) (same_digest_is x z e) passes) is ∙ ap (λ l. old || (has l y && t y)) (sym cut)
+    add_step t x y (has later y) old new (λ z e. subst (λ w. t w ≡ true) (same_digest_is x z e) passes) is
+    ∙ ap (λ l. old || (has l y && t y)) (sym cut)
 
-pub pass_found : (t : Digest → Bool) (x y : Digest) (xs later : List Digest) (old new : Bool) → xs ≡ x ∷ later → t x ≡ false → new ≡ old → (new || (has later y && t y)) ≡ (old || (has xs y && t y))
+pub pass_found : (t : Digest → Bool) (x y : Digest) (xs later : List Digest) (old new : Bool) → xs ≡ x ∷ later → t x ≡ false → new ≡ old
+    → (new || (has later y && t y)) ≡ (old || (has xs y && t y))
 pass_found t x y xs later old new cut fails is =
-    ap (λ b. b || (has later y && t y)) is ∙ pass_step t x y (has later y) old (λ z e. subst (λ w. t w ≡ false) (same_digest_is x z e) fails) ∙ ap (λ l. old || (has l y && t y)) (sym cut)
+    ap (λ b. b || (has later y && t y)) is ∙ pass_step t x y (has later y) old (λ z e. subst (λ w. t w ≡ false) (same_digest_is x z e) fails)
+    ∙ ap (λ l. old || (has l y && t y)) (sym cut)
 
 -- by those of an entry that pass, and then by the others'
 pub more_step : (all one rest t old new : Bool) → all ≡ (one || rest) → new ≡ (old || (one && t)) → (new || (rest && t)) ≡ (old || (all && t))
@@ -123,20 +134,26 @@ or_false false = refl
 
 module _ (os : List Outcome) (es : List Answered) (i : ℕ) (a : Answered) (cut : drop i es ≡ a ∷ drop (i + 1) es) (y : Digest) where
   pub waiting_more : waits os a ≡ true → has (waiting_inputs os (drop i es)) y ≡ (has a.entry.inputs y || has (waiting_inputs os (drop (i + 1) es)) y)
-  waiting_more w = ap (λ l. has (waiting_inputs os l) y) cut ∙ ap (λ (c : Bool). has (if c then a.entry.inputs ++ waiting_inputs os (drop (i + 1) es) else waiting_inputs os (drop (i + 1) es)) y) w
+  waiting_more w = ap (λ l. has (waiting_inputs os l) y) cut
+      ∙ ap (λ (c : Bool). has (if c then a.entry.inputs ++ waiting_inputs os (drop (i + 1) es) else waiting_inputs os (drop (i + 1) es)) y) w
       ∙ has_append a.entry.inputs (waiting_inputs os (drop (i + 1) es)) y
 
   pub waiting_same : waits os a ≡ false → has (waiting_inputs os (drop i es)) y ≡ has (waiting_inputs os (drop (i + 1) es)) y
-  waiting_same w = ap (λ l. has (waiting_inputs os l) y) cut ∙ ap (λ (c : Bool). has (if c then a.entry.inputs ++ waiting_inputs os (drop (i + 1) es) else waiting_inputs os (drop (i + 1) es)) y) w
+  waiting_same w = ap (λ l. has (waiting_inputs os l) y) cut
+      ∙ ap (λ (c : Bool). has (if c then a.entry.inputs ++ waiting_inputs os (drop (i + 1) es) else waiting_inputs os (drop (i + 1) es)) y) w
 
-module _ (ts : List Compact) (os : List Outcome) (i : ℕ) (t : Compact) (o : Outcome) (cut_txs : drop i ts ≡ t ∷ drop (i + 1) ts) (cut_outcomes : drop i os ≡ o ∷ drop (i + 1) os) (y : Digest) where
-  pub outputs_more : Rattle.cbdc_model.specs.Records.is_won o ≡ true → has (all_outputs (won_txs (drop i ts) (drop i os))) y ≡ (has t.outputs y || has (all_outputs (won_txs (drop (i + 1) ts) (drop (i + 1) os))) y)
+module _ (ts : List Compact) (os : List Outcome) (i : ℕ) (t : Compact) (o : Outcome) (cut_txs : drop i ts ≡ t ∷ drop (i + 1) ts)
+    (cut_outcomes : drop i os ≡ o ∷ drop (i + 1) os) (y : Digest) where
+  pub outputs_more : Rattle.cbdc_model.specs.Records.is_won o ≡ true
+      → has (all_outputs (won_txs (drop i ts) (drop i os))) y ≡ (has t.outputs y || has (all_outputs (won_txs (drop (i + 1) ts) (drop (i + 1) os))) y)
   outputs_more w = rw (cut_txs, cut_outcomes, w) (has_append t.outputs (all_outputs (won_txs (drop (i + 1) ts) (drop (i + 1) os))) y)
 
-  pub outputs_same : Rattle.cbdc_model.specs.Records.is_won o ≡ false → has (all_outputs (won_txs (drop i ts) (drop i os))) y ≡ has (all_outputs (won_txs (drop (i + 1) ts) (drop (i + 1) os))) y
+  pub outputs_same : Rattle.cbdc_model.specs.Records.is_won o ≡ false
+      → has (all_outputs (won_txs (drop i ts) (drop i os))) y ≡ has (all_outputs (won_txs (drop (i + 1) ts) (drop (i + 1) os))) y
   outputs_same w = rw (cut_txs, cut_outcomes, w)
 
-pub no_outputs : (ts : List Compact) (os : List Outcome) (i : ℕ) → (i < length ts → i < length os → ⊥) → all_outputs (won_txs (drop i ts) (drop i os)) ≡ []
+pub no_outputs : (ts : List Compact) (os : List Outcome) (i : ℕ) → (i < length ts → i < length os → ⊥)
+    → all_outputs (won_txs (drop i ts) (drop i os)) ≡ []
 no_outputs ts os i over = elim (cases_lt i (length ts)) [
   | inl lt ↦ elim (cases_lt i (length os)) [
     | inl less ↦ absurd (over lt less)
@@ -166,10 +183,11 @@ in_any test (q ∷ rows) row (inr i) e = or_true (test q) (any_row test rows) (i
 
 pub any_in : (test : Row → Bool) (rows : List Row) → any_row test rows ≡ true → (row : Row) × In row rows × (test row ≡ true)
 any_in test [] e = absurd (let z : false ≡ true = e in cc)
-any_in test (q ∷ rows) e = elim (test q) as (λ c. test q ≡ c → (c || any_row test rows) ≡ true → (row : Row) × In row (q ∷ rows) × (test row ≡ true)) [
-  | true ↦ λ t f. (q, inl refl, t)
-  | false ↦ λ t f. let r = any_in test rows f in (r.0, inr r.1, r.2)
-] refl e
+any_in test (q ∷ rows) e = elim (test q)
+    as (λ c. test q ≡ c → (c || any_row test rows) ≡ true → (row : Row) × In row (q ∷ rows) × (test row ≡ true)) [
+      | true ↦ λ t f. (q, inl refl, t)
+      | false ↦ λ t f. let r = any_in test rows f in (r.0, inr r.1, r.2)
+    ] refl e
 
 in_onto : {A : Type 0} (x : A) (xs ys : List A) → In x xs ⊎ In x ys → In x (reverse_aux xs ys)
 in_onto x [] ys (inl i) = absurd i
@@ -186,7 +204,8 @@ row_of (row ∷ rows) n r i = elim (at_node row.node n) [
   | away e ↦ inr (row_of rows n r (subst (In r) (head_away row rows n e) i))
 ]
   where
-    here : (In r (journal n rows) → In (record { node = n; what = r }) rows) → row.node ≡ n → In r (row.what ∷ journal n rows) → In (record { node = n; what = r }) (row ∷ rows)
+    here : (In r (journal n rows) → In (record { node = n; what = r }) rows) → row.node ≡ n → In r (row.what ∷ journal n rows)
+        → In (record { node = n; what = r }) (row ∷ rows)
     here rest e (inl s) = inl (λ i. record { node = sym e i; what = s i })
     here rest e (inr i) = inr (rest i)
 
@@ -197,8 +216,10 @@ find_in test (q ∷ J) r e = elim (test q) as (λ c. cond c (Some q) (find test 
   | false ↦ λ f. inr (find_in test J r f)
 ] e
 
-found_row : (rows : List Row) (n kind : ℕ) (b : Batch) (r : Record) → record_of kind (journal n rows) b ≡ Some r → In (record { node = n; what = r }) (reverse rows)
-found_row rows n kind b r e = in_onto (record { node = n; what = r }) rows [] (inl (row_of rows n r (find_in (λ q. (kind_of q == kind) && is_of b q) (journal n rows) r e)))
+found_row : (rows : List Row) (n kind : ℕ) (b : Batch) (r : Record) → record_of kind (journal n rows) b ≡ Some r
+    → In (record { node = n; what = r }) (reverse rows)
+found_row rows n kind b r e = in_onto (record { node = n; what = r }) rows []
+    (inl (row_of rows n r (find_in (λ q. (kind_of q == kind) && is_of b q) (journal n rows) r e)))
 
 -- ---- held
 
@@ -211,19 +232,22 @@ record Waiter (os : List Outcome) (es : List Answered) (x : Digest) : Type 0 whe
 
 waiter : (os : List Outcome) (es : List Answered) (x : Digest) → has (waiting_inputs os es) x ≡ true → Waiter os es x
 waiter os [] x e = absurd (let z : false ≡ true = e in cc)
-waiter os (a ∷ es) x e = elim (waits os a) as (λ c. waits os a ≡ c → has (if c then a.entry.inputs ++ waiting_inputs os es else waiting_inputs os es) x ≡ true → Waiter os (a ∷ es) x) [
-  | true ↦ λ w f. here (waiter os es x) w (has a.entry.inputs x) refl (sym (has_append a.entry.inputs (waiting_inputs os es) x) ∙ f)
-  | false ↦ λ w f. later (waiter os es x f)
-] refl e
+waiter os (a ∷ es) x e = elim (waits os a) as (λ c. waits os a ≡ c
+    → has (if c then a.entry.inputs ++ waiting_inputs os es else waiting_inputs os es) x ≡ true → Waiter os (a ∷ es) x) [
+      | true ↦ λ w f. here (waiter os es x) w (has a.entry.inputs x) refl (sym (has_append a.entry.inputs (waiting_inputs os es) x) ∙ f)
+      | false ↦ λ w f. later (waiter os es x f)
+    ] refl e
   where
     later : Waiter os es x → Waiter os (a ∷ es) x
     later w = record { entry = w.entry; inside = inr w.inside; waits_yet = w.waits_yet; input = w.input }
 
-    here : (has (waiting_inputs os es) x ≡ true → Waiter os es x) → waits os a ≡ true → (c : Bool) → has a.entry.inputs x ≡ c → (c || has (waiting_inputs os es) x) ≡ true → Waiter os (a ∷ es) x
+    here : (has (waiting_inputs os es) x ≡ true → Waiter os es x) → waits os a ≡ true → (c : Bool) → has a.entry.inputs x ≡ c
+        → (c || has (waiting_inputs os es) x) ≡ true → Waiter os (a ∷ es) x
     here rest w true h f = record { entry = a; inside = inl refl; waits_yet = w; input = h }
     here rest w false h f = later (rest f)
 
-waiting_in : (os : List Outcome) (es : List Answered) (a : Answered) (x : Digest) → In a es → waits os a ≡ true → has a.entry.inputs x ≡ true → has (waiting_inputs os es) x ≡ true
+waiting_in : (os : List Outcome) (es : List Answered) (a : Answered) (x : Digest) → In a es → waits os a ≡ true → has a.entry.inputs x ≡ true
+    → has (waiting_inputs os es) x ≡ true
 waiting_in os [] a x i w h = absurd i
 waiting_in os (b ∷ es) a x (inl s) w h =
     ap (λ (c : Bool). has (if c then b.entry.inputs ++ waiting_inputs os es else waiting_inputs os es) x) (ap (waits os) (sym s) ∙ w)
@@ -245,20 +269,24 @@ locked_is b (Locked c) e = ap Locked (same_batch_is c b e)
 locked_is b Absent e = absurd (let z : false ≡ true = e in cc)
 
 -- what is found of a kind is of the kind and the batch
-lock_is : (J : List Record) (b : Batch) (a : Answered) → In a (lock_of J b) → (stamp : ℕ) × (es : List Answered) × (record_of lock_kind J b ≡ Some (Lock stamp b es))
+lock_is : (J : List Record) (b : Batch) (a : Answered) → In a (lock_of J b)
+    → (stamp : ℕ) × (es : List Answered) × (record_of lock_kind J b ≡ Some (Lock stamp b es))
 lock_is J b a i = go (record_of lock_kind J b) refl i
   where
-    go : (o : Option Record) → record_of lock_kind J b ≡ o → In a (entries_in o) → (stamp : ℕ) × (es : List Answered) × (record_of lock_kind J b ≡ Some (Lock stamp b es))
+    go : (o : Option Record) → record_of lock_kind J b ≡ o → In a (entries_in o)
+        → (stamp : ℕ) × (es : List Answered) × (record_of lock_kind J b ≡ Some (Lock stamp b es))
     go (Some (Lock stamp c es)) e i =
         let t : ((lock_kind == lock_kind) && same_batch c b) ≡ true = found_passes lock_kind J b (Lock stamp c es) e in
         let s : c ≡ b = same_batch_is c b (both (lock_kind == lock_kind) (same_batch c b) t).1 in
         (stamp, es, e ∙ ap (λ d. Some (Lock stamp d es)) s)
     go other e i = absurd i
 
-commit_is : (J : List Record) (b : Batch) (o : Outcome) (os : List Outcome) → outcomes_of J b ≡ o ∷ os → (stamp : ℕ) × (all : List Outcome) × (record_of commit_kind J b ≡ Some (Commit stamp b all))
+commit_is : (J : List Record) (b : Batch) (o : Outcome) (os : List Outcome) → outcomes_of J b ≡ o ∷ os
+    → (stamp : ℕ) × (all : List Outcome) × (record_of commit_kind J b ≡ Some (Commit stamp b all))
 commit_is J b o os i = go (record_of commit_kind J b) refl i
   where
-    go : (q : Option Record) → record_of commit_kind J b ≡ q → outcomes_in q ≡ o ∷ os → (stamp : ℕ) × (all : List Outcome) × (record_of commit_kind J b ≡ Some (Commit stamp b all))
+    go : (q : Option Record) → record_of commit_kind J b ≡ q → outcomes_in q ≡ o ∷ os
+        → (stamp : ℕ) × (all : List Outcome) × (record_of commit_kind J b ≡ Some (Commit stamp b all))
     go (Some (Commit stamp c all)) e i =
         let t : ((commit_kind == commit_kind) && same_batch c b) ≡ true = found_passes commit_kind J b (Commit stamp c all) e in
         let s : c ≡ b = same_batch_is c b (both (commit_kind == commit_kind) (same_batch c b) t).1 in
@@ -296,7 +324,8 @@ module _ (K : Shape) (past : List Row) (x : Digest) where
       )
   waiting_from n other e = absurd (let z : false ≡ true = e in cc)
 
-  not_won : (b : Batch) (k : ℕ) → (is_some (record_of commit_kind (lane_journal K past b) b) ≡ false) ⊎ (won_at (outcomes_of (lane_journal K past b) b) k ≡ false)
+  not_won : (b : Batch) (k : ℕ) → (is_some (record_of commit_kind (lane_journal K past b) b) ≡ false)
+      ⊎ (won_at (outcomes_of (lane_journal K past b) b) k ≡ false)
       → won_at (outcomes_of (lane_journal K past b) b) k ≡ false
   not_won b k (inl none) = ap (λ o. won_at (outcomes_in o) k) (none_found (record_of commit_kind (lane_journal K past b) b) none)
   not_won b k (inr e) = e
@@ -308,12 +337,14 @@ module _ (K : Shape) (past : List Row) (x : Digest) where
       let inside : In a (lock_of (J node) b) = in_contains (lock_of (J node) b) a w.3 in
       let l = lock_is (J node) b a inside in
       let outcomes = outcomes_of (J (home_of K b.lane)) b in
-      let yet : waits outcomes a ≡ true = and_true (is_held a.reply) (not (won_at outcomes a.entry.place)) w.4 (not_false (won_at outcomes a.entry.place) (not_won b a.entry.place w.6)) in
+      let yet : waits outcomes a ≡ true = and_true (is_held a.reply) (not (won_at outcomes a.entry.place)) w.4
+      (not_false (won_at outcomes a.entry.place) (not_won b a.entry.place w.6)) in
       let input : has a.entry.inputs x ≡ true = count-has x a.entry.inputs (in_count x a.entry.inputs (in_contains a.entry.inputs x w.5)) in
       let by : is_locked_by b (status (J node) x) ≡ true = ap (is_locked_by b) w.2 ∙ same_batch_self b in
       in_any holds (reverse past) (record { node = node; what = Lock l.0 b l.1 }) (found_row past node lock_kind b (Lock l.0 b l.1) l.2)
       (and_true (has (waiting_inputs outcomes (lock_of (J node) b)) x) (is_here K node x && is_locked_by b (status (J node) x))
-      (waiting_in outcomes (lock_of (J node) b) a x inside yet input) (and_true (is_here K node x) (is_locked_by b (status (J node) x)) (number_self node) by))
+      (waiting_in outcomes (lock_of (J node) b) a x inside yet input)
+      (and_true (is_here K node x) (is_locked_by b (status (J node) x)) (number_self node) by))
 
   pub held_are : (any_row holds (reverse past) ≡ true → IsWaiting K past x) × (IsWaiting K past x → any_row holds (reverse past) ≡ true)
   held_are = (λ e. let r = any_in holds (reverse past) e in waiting_from r.0.node r.0.what r.2, holds_waiting)
@@ -339,8 +370,10 @@ module _ (K : Shape) (past : List Row) (x : Digest) where
       let inside : In x outputs = in_contains outputs x c.1 in
       let some = won_some (txs_of (lane_journal K past b) b) (outcomes_of (lane_journal K past b) b) inside in
       let l = commit_is (lane_journal K past b) b some.0 some.1 some.2 in
-      in_any owing (reverse past) (record { node = home_of K b.lane; what = Commit l.0 b l.1 }) (found_row past (home_of K b.lane) commit_kind b (Commit l.0 b l.1) l.2)
-      (and_true (has outputs x) (is_due K J b x) (count-has x outputs (in_count x outputs inside)) (not_false (is_some (record_of finish_kind (J node) b)) c.2))
+      in_any owing (reverse past) (record { node = home_of K b.lane; what = Commit l.0 b l.1 })
+      (found_row past (home_of K b.lane) commit_kind b (Commit l.0 b l.1) l.2)
+      (and_true (has outputs x) (is_due K J b x) (count-has x outputs (in_count x outputs inside))
+      (not_false (is_some (record_of finish_kind (J node) b)) c.2))
 
   pub owed_are : (any_row owing (reverse past) ≡ true → IsComing K past x) × (IsComing K past x → any_row owing (reverse past) ≡ true)
   owed_are = (λ e. let r = any_in owing (reverse past) e in coming_from r.0.what r.2, owes_coming)
@@ -354,7 +387,8 @@ unspent_are false None s e = (λ t. absurd (let z : false ≡ true = t in cc), �
 
 -- ---- counts
 
-pub unspent_count : (K : Shape) (past : List Row) (s : Statuses) (n : ℕ) → IsSet s.unspent.hashes → n ≡ length s.unspent.hashes → HasStatuses K s past → IsCount (IsUnspent K (λ m. journal m past)) n
+pub unspent_count : (K : Shape) (past : List Row) (s : Statuses) (n : ℕ) → IsSet s.unspent.hashes → n ≡ length s.unspent.hashes
+    → HasStatuses K s past → IsCount (IsUnspent K (λ m. journal m past)) n
 unspent_count K past s n once len statuses = record {
   hashes = s.unspent.hashes;
   once = once;
@@ -363,7 +397,8 @@ unspent_count K past s n once len statuses = record {
 }
 
 pub waiting_count : (K : Shape) (rows : List Row) (held : List Digest) (n : ℕ) → IsSet held → n ≡ length held
-    → ((y : Digest) → has held y ≡ any_row (λ row. holds_back K (λ m. journal m (reverse rows)) row.node row.what y) rows) → IsCount (IsWaiting K (reverse rows)) n
+    → ((y : Digest) → has held y ≡ any_row (λ row. holds_back K (λ m. journal m (reverse rows)) row.node row.what y) rows)
+    → IsCount (IsWaiting K (reverse rows)) n
 waiting_count K rows held n once len is = record {
   hashes = held;
   once = once;

@@ -30,10 +30,13 @@ module _ (K : Shape) where
       = subst (λ rows. All (λ row. HasDoneRecord K (λ n. journal n rows) row.what) (reverse past)) (reverse-reverse past) done in
       each_done (λ n. journal n past) past
       (subst (AllByRecursion (λ row. HasDoneRecord K (λ n. journal n past) row.what)) (reverse-reverse past)
-      (onto (λ row. HasDoneRecord K (λ n. journal n past) row.what) (reverse past) [] (recursion_from_All (λ row. HasDoneRecord K (λ n. journal n past) row.what) (reverse past) here) tt))
+      (onto (λ row. HasDoneRecord K (λ n. journal n past) row.what) (reverse past) []
+      (recursion_from_All (λ row. HasDoneRecord K (λ n. journal n past) row.what) (reverse past) here) tt))
 
 pub unspent_is_book : UnspentLaw
 unspent_is_book K mint handed later totals shards clean after each sound x =
-    let pass : Passes K mint handed (history_of K mint later) sound.book = subst (λ rows. Passes K mint handed rows sound.book) (reverse-reverse (history_of K mint later)) sound.pass in
-    unspent_law K mint handed clean shards later (all_steady K (minted mint) later after pass.caused) (all_done K (history_of K mint later) sound.done) sound.book pass.spent
+    let pass : Passes K mint handed (history_of K mint later) sound.book =
+    subst (λ rows. Passes K mint handed rows sound.book) (reverse-reverse (history_of K mint later)) sound.pass in
+    unspent_law K mint handed clean shards later (all_steady K (minted mint) later after pass.caused)
+    (all_done K (history_of K mint later) sound.done) sound.book pass.spent
     (spends_of (committed (history_of K mint later)) (recursion_from_All (λ k. 0 < length k.inputs) (committed (history_of K mint later)) each)) x

@@ -1,9 +1,11 @@
 -- Hashes and their statuses, entry by entry and record by record.
-use Rattle.std.proofs.Common.{◌≡◌, ◌⊎◌, inl, inr, ℕ, zero, suc, ◌+◌, ◌<◌, ◌≤◌, Bool, true, false, not, ◌&&◌, ◌||◌, ◌==◌, List, [], ◌∷◌, ◌++◌, length, drop, get_or, if◌then◌else◌, Option, None, Result, Ok, Err, refl, sym, ap, ◌∙◌, subst, arith}
+use Rattle.std.proofs.Common.{◌≡◌, ◌⊎◌, inl, inr, ℕ, zero, suc, ◌+◌, ◌<◌, ◌≤◌, Bool, true, false, not, ◌&&◌, ◌||◌, ◌==◌, List, [], ◌∷◌, ◌++◌, length}
+use Rattle.std.proofs.Common.{drop, get_or, if◌then◌else◌, Option, None, Result, Ok, Err, refl, sym, ap, ◌∙◌, subst, arith}
 use Rattle.std.specs.Prelude.{OnOk}
 use Rattle.std.proofs.lemmas.List.{drop_more}
 use Rattle.std.proofs.lemmas.Bool.{cases_lt}
-use Rattle.cbdc_model.specs.Records.{Digest, same_digest, Shape, Batch, Answered, Record, Row, journal, is_held, Genesis, Lock, Finish, Forget, Start, Prepare, Commit, Discard, Done}
+use Rattle.cbdc_model.specs.Records.{Digest, same_digest, Shape, Batch, Answered, Record, Row, journal, is_held, Genesis, Lock, Finish, Forget, Start}
+use Rattle.cbdc_model.specs.Records.{Prepare, Commit, Discard, Done}
 use Rattle.cbdc_model.specs.Status.{Status, status, has, held_inputs, taken_inputs, returned_inputs, made_outputs, finished_status, Unspent, Absent}
 use Rattle.cbdc_model.specs.Ranges.{shard_of, shard_node, journal_at}
 use Rattle.ledger_laws.proofs.Counts.{same_digest_is}
@@ -38,8 +40,10 @@ drop_end (x ∷ xs) (suc i) l = drop_end xs i (omega (arith, l))
 
 -- ---- one hash
 
-pub said_one : (x y : Digest) (in_old in_new : Bool) (by_old by_new : Option Batch) (s : Status) → (same_digest x y ≡ true → said_of in_new by_new ≡ s)
-    → (same_digest x y ≡ false → (in_new ≡ in_old) × (by_new ≡ by_old)) → said_of in_new by_new ≡ (if same_digest x y then s else said_of in_old by_old)
+pub said_one : (x y : Digest) (in_old in_new : Bool) (by_old by_new : Option Batch) (s : Status)
+    → (same_digest x y ≡ true → said_of in_new by_new ≡ s)
+    → (same_digest x y ≡ false → (in_new ≡ in_old) × (by_new ≡ by_old))
+    → said_of in_new by_new ≡ (if same_digest x y then s else said_of in_old by_old)
 said_one x y in_old in_new by_old by_new s named others =
     elim (same_digest x y) as (λ c. same_digest x y ≡ c → said_of in_new by_new ≡ (if c then s else said_of in_old by_old)) [
       | true ↦ λ e. named e
@@ -52,10 +56,12 @@ gone b o r e k = k ∙ ap (λ c. if c then None else o) e
 -- ---- some hashes
 
 -- one of them lies here
-pub here_step : {A : Type 0} (h : Digest → Bool) (x y : Digest) (rest : Bool) (v old new : A) → h x ≡ true → new ≡ (if same_digest x y then v else old)
+pub here_step : {A : Type 0} (h : Digest → Bool) (x y : Digest) (rest : Bool) (v old new : A) → h x ≡ true
+    → new ≡ (if same_digest x y then v else old)
     → (if rest && h y then v else new) ≡ (if (same_digest x y || rest) && h y then v else old)
 here_step {A} h x y rest v old new here is =
-    elim (same_digest x y) as (λ c. same_digest x y ≡ c → new ≡ (if c then v else old) → (if rest && h y then v else new) ≡ (if (c || rest) && h y then v else old)) [
+    elim (same_digest x y) as (λ c. same_digest x y ≡ c → new ≡ (if c then v else old)
+    → (if rest && h y then v else new) ≡ (if (c || rest) && h y then v else old)) [
       | true ↦ λ e n. let yes : h y ≡ true = subst (λ z. h z ≡ true) (same_digest_is x y e) here in both rest (h y) yes n
       | false ↦ λ e n. ap (λ z. if rest && h y then v else z) n
     ] refl is
@@ -65,7 +71,8 @@ here_step {A} h x y rest v old new here is =
     both false b e n = n ∙ sym (ap (λ c. if c then v else old) e)
 
 -- one of them does not
-pub away_step : {A : Type 0} (h : Digest → Bool) (x y : Digest) (rest : Bool) (v old : A) → h x ≡ false → (if rest && h y then v else old) ≡ (if (same_digest x y || rest) && h y then v else old)
+pub away_step : {A : Type 0} (h : Digest → Bool) (x y : Digest) (rest : Bool) (v old : A) → h x ≡ false
+    → (if rest && h y then v else old) ≡ (if (same_digest x y || rest) && h y then v else old)
 away_step {A} h x y rest v old elsewhere =
     elim (same_digest x y) as (λ c. same_digest x y ≡ c → (if rest && h y then v else old) ≡ (if (c || rest) && h y then v else old)) [
       | true ↦ λ e. let no : h y ≡ false = subst (λ z. h z ≡ false) (same_digest_is x y e) elsewhere in neither rest (h y) no
@@ -77,18 +84,23 @@ away_step {A} h x y rest v old elsewhere =
     neither false b e = sym (ap (λ c. if c then v else old) e)
 
 -- along a list of hashes
-pub hash_here : {A : Type 0} (h : Digest → Bool) (x y : Digest) (xs later : List Digest) (v old new was : A) → xs ≡ x ∷ later → h x ≡ true → new ≡ was → was ≡ (if same_digest x y then v else old)
+pub hash_here : {A : Type 0} (h : Digest → Bool) (x y : Digest) (xs later : List Digest) (v old new was : A) → xs ≡ x ∷ later → h x ≡ true
+    → new ≡ was → was ≡ (if same_digest x y then v else old)
     → (if has later y && h y then v else new) ≡ (if has xs y && h y then v else old)
-hash_here h x y xs later v old new was cut here is set = here_step h x y (has later y) v old new here (is ∙ set) ∙ ap (λ l. if has l y && h y then v else old) (sym cut)
+hash_here h x y xs later v old new was cut here is set =
+    here_step h x y (has later y) v old new here (is ∙ set) ∙ ap (λ l. if has l y && h y then v else old) (sym cut)
 
 pub hash_away : {A : Type 0} (h : Digest → Bool) (x y : Digest) (xs later : List Digest) (v old new : A) → xs ≡ x ∷ later → h x ≡ false → new ≡ old
     → (if has later y && h y then v else new) ≡ (if has xs y && h y then v else old)
-hash_away h x y xs later v old new cut elsewhere is = ap (λ w. if has later y && h y then v else w) is ∙ away_step h x y (has later y) v old elsewhere ∙ ap (λ l. if has l y && h y then v else old) (sym cut)
+hash_away h x y xs later v old new cut elsewhere is =
+    ap (λ w. if has later y && h y then v else w) is ∙ away_step h x y (has later y) v old elsewhere
+    ∙ ap (λ l. if has l y && h y then v else old) (sym cut)
 
 -- ---- entries
 
 -- those of an entry, and then the others
-pub over_step : {A : Type 0} (all one rest h : Bool) (v old new : A) → all ≡ (one || rest) → new ≡ (if one && h then v else old) → (if rest && h then v else new) ≡ (if all && h then v else old)
+pub over_step : {A : Type 0} (all one rest h : Bool) (v old new : A) → all ≡ (one || rest) → new ≡ (if one && h then v else old)
+    → (if rest && h then v else new) ≡ (if all && h then v else old)
 over_step all true true true v old new a n = sym (ap (λ c. if c && true then v else old) a)
 over_step all true false true v old new a n = n ∙ sym (ap (λ c. if c && true then v else old) a)
 over_step all false true true v old new a n = sym (ap (λ c. if c && true then v else old) a)
@@ -108,25 +120,31 @@ module _ (es : List Answered) (ds : List Bool) (i : ℕ) (a : Answered) (cut : d
   pub held_same : is_held a.reply ≡ false → has (held_inputs (drop i es)) y ≡ has (held_inputs (drop (i + 1) es)) y
   held_same h = rw (cut, h)
 
-  pub taken_more : drop i ds ≡ true ∷ drop (i + 1) ds → has (taken_inputs (drop i es) (drop i ds)) y ≡ (has a.entry.inputs y || has (taken_inputs (drop (i + 1) es) (drop (i + 1) ds)) y)
+  pub taken_more : drop i ds ≡ true ∷ drop (i + 1) ds
+      → has (taken_inputs (drop i es) (drop i ds)) y ≡ (has a.entry.inputs y || has (taken_inputs (drop (i + 1) es) (drop (i + 1) ds)) y)
   taken_more d = rw (cut, d) (has_append a.entry.inputs (taken_inputs (drop (i + 1) es) (drop (i + 1) ds)) y)
 
-  pub taken_same : drop i ds ≡ false ∷ drop (i + 1) ds → has (taken_inputs (drop i es) (drop i ds)) y ≡ has (taken_inputs (drop (i + 1) es) (drop (i + 1) ds)) y
+  pub taken_same : drop i ds ≡ false ∷ drop (i + 1) ds
+      → has (taken_inputs (drop i es) (drop i ds)) y ≡ has (taken_inputs (drop (i + 1) es) (drop (i + 1) ds)) y
   taken_same d = rw (cut, d)
 
-  pub made_more : drop i ds ≡ true ∷ drop (i + 1) ds → has (made_outputs (drop i es) (drop i ds)) y ≡ (has a.entry.outputs y || has (made_outputs (drop (i + 1) es) (drop (i + 1) ds)) y)
+  pub made_more : drop i ds ≡ true ∷ drop (i + 1) ds
+      → has (made_outputs (drop i es) (drop i ds)) y ≡ (has a.entry.outputs y || has (made_outputs (drop (i + 1) es) (drop (i + 1) ds)) y)
   made_more d = rw (cut, d) (has_append a.entry.outputs (made_outputs (drop (i + 1) es) (drop (i + 1) ds)) y)
 
-  pub made_same : drop i ds ≡ false ∷ drop (i + 1) ds → has (made_outputs (drop i es) (drop i ds)) y ≡ has (made_outputs (drop (i + 1) es) (drop (i + 1) ds)) y
+  pub made_same : drop i ds ≡ false ∷ drop (i + 1) ds
+      → has (made_outputs (drop i es) (drop i ds)) y ≡ has (made_outputs (drop (i + 1) es) (drop (i + 1) ds)) y
   made_same d = rw (cut, d)
 
-  returned_yes : (h d : Bool) (xs rest : List Digest) → (not d && h) ≡ true → has (if h then (if d then rest else xs ++ rest) else rest) y ≡ (has xs y || has rest y)
+  returned_yes : (h d : Bool) (xs rest : List Digest) → (not d && h) ≡ true
+      → has (if h then (if d then rest else xs ++ rest) else rest) y ≡ (has xs y || has rest y)
   returned_yes true true xs rest e = absurd (let z : false ≡ true = e in cc)
   returned_yes true false xs rest e = has_append xs rest y
   returned_yes false true xs rest e = absurd (let z : false ≡ true = e in cc)
   returned_yes false false xs rest e = absurd (let z : false ≡ true = e in cc)
 
-  returned_no : (h d : Bool) (xs rest : List Digest) → (not d && h) ≡ false → has (if h then (if d then rest else xs ++ rest) else rest) y ≡ has rest y
+  returned_no : (h d : Bool) (xs rest : List Digest) → (not d && h) ≡ false
+      → has (if h then (if d then rest else xs ++ rest) else rest) y ≡ has rest y
   returned_no true true xs rest e = refl
   returned_no true false xs rest e = absurd (let z : true ≡ false = e in cc)
   returned_no false d xs rest e = refl
@@ -194,7 +212,8 @@ finished false true false false old = refl
 finished false false true false old = refl
 finished false false false false old = refl
 
-pub all_finished : (es : List Answered) (ds : List Bool) (y : Digest) (h : Bool) (old one two three : Status) → one ≡ (if has (taken_inputs es ds) y && h then Absent else old)
+pub all_finished : (es : List Answered) (ds : List Bool) (y : Digest) (h : Bool) (old one two three : Status)
+    → one ≡ (if has (taken_inputs es ds) y && h then Absent else old)
     → two ≡ (if has (returned_inputs es ds) y && h then Unspent else one) → three ≡ (if has (made_outputs es ds) y && h then Unspent else two)
     → three ≡ (if h then finished_status es ds y old else old)
 all_finished es ds y h old one two three a b c =

@@ -15,11 +15,14 @@ use Rattle.ledger_laws.proofs.Recovery.{MadeAt, made_in, distinct_points, hashes
 use Rattle.audit.proofs.Once.{SoFar, AreReady, Maker, maker_in, spent_of, made_of, minted_of, IsMade}
 
 module _ (mint : List Output) (handed : List FullTx) (clean : Clean mint handed) where
-  all_are_made : (ts : List FullTx) → ((t : FullTx) → In t ts → IsMember mint handed t) → ((x : Digest) → 0 < spent_of ts x → MadeAt mint handed clean x) → EachCoin (IsMade mint handed clean) (all_spent ts)
+  all_are_made : (ts : List FullTx) → ((t : FullTx) → In t ts → IsMember mint handed t)
+      → ((x : Digest) → 0 < spent_of ts x → MadeAt mint handed clean x) → EachCoin (IsMade mint handed clean) (all_spent ts)
   all_are_made [] members source = tt
   all_are_made (t ∷ ts) members source = each-append (IsMade mint handed clean) t.inputs (all_spent ts)
-      (each_is_made mint handed clean t (members t (inl refl)) t.inputs (λ c h. h) (λ x h. source x (omega (arith, count-append x (hashes_of t.inputs) (all_inputs (map compact ts))))))
-      (all_are_made ts (λ u i. members u (inr i)) (λ x h. source x (omega (arith, count-append x (hashes_of t.inputs) (all_inputs (map compact ts))))))
+      (each_is_made mint handed clean t (members t (inl refl)) t.inputs (λ c h. h)
+      (λ x h. source x (omega (arith, count-append x (hashes_of t.inputs) (all_inputs (map compact ts))))))
+      (all_are_made ts (λ u i. members u (inr i))
+      (λ x h. source x (omega (arith, count-append x (hashes_of t.inputs) (all_inputs (map compact ts))))))
 
   module _ (ts : List FullTx) (b : Book) (so : SoFar mint handed clean ts b) where
     source : (x : Digest) → 0 < spent_of ts x → MadeAt mint handed clean x
@@ -30,7 +33,8 @@ module _ (mint : List Output) (handed : List FullTx) (clean : Clean mint handed)
           | inr m ↦ let k : Maker ts x = maker_in ts x m in made_in mint handed clean k.tx (so.members k.tx k.inside) x k.makes
         ]
       where
-        one_of : (x : Digest) → spent_of ts x ≤ minted_of mint handed clean x + made_of ts x → 0 < spent_of ts x → (0 < minted_of mint handed clean x) ⊎ (0 < made_of ts x)
+        one_of : (x : Digest) → spent_of ts x ≤ minted_of mint handed clean x + made_of ts x → 0 < spent_of ts x
+            → (0 < minted_of mint handed clean x) ⊎ (0 < made_of ts x)
         one_of x le h = grind (arith, le, h)
 
     -- no hash is taken twice
@@ -42,11 +46,14 @@ module _ (mint : List Output) (handed : List FullTx) (clean : Clean mint handed)
 
   -- two with one id would share an input
   no_later_id : (t : FullTx) (ts : List FullTx) → IsMember mint handed t → 0 < length t.inputs → ((u : FullTx) → In u ts → IsMember mint handed u)
-      → ((x : Digest) → count x (hashes_of t.inputs) + spent_of ts x ≤ 1) → AllByRecursion (λ i. same_digest (tx_id t) i ≡ false) (map (λ k. k.id) (map compact ts))
+      → ((x : Digest) → count x (hashes_of t.inputs) + spent_of ts x ≤ 1)
+      → AllByRecursion (λ i. same_digest (tx_id t) i ≡ false) (map (λ k. k.id) (map compact ts))
   no_later_id t [] m some members twice = tt
   no_later_id t (u ∷ us) m some members twice = (
-    not_true (same_digest (tx_id t) (tx_id u)) (λ e. apart t u m (members u (inl refl)) some (λ x. omega (arith, twice x, count-append x (hashes_of u.inputs) (all_inputs (map compact us)))) (same_digest_is (tx_id t) (tx_id u) e)),
-    no_later_id t us m some (λ v i. members v (inr i)) (λ x. omega (arith, twice x, count-append x (hashes_of u.inputs) (all_inputs (map compact us)))),
+    not_true (same_digest (tx_id t) (tx_id u)) (λ e. apart t u m (members u (inl refl)) some
+        (λ x. omega (arith, twice x, count-append x (hashes_of u.inputs) (all_inputs (map compact us)))) (same_digest_is (tx_id t) (tx_id u) e)),
+    no_later_id t us m some (λ v i. members v (inr i))
+        (λ x. omega (arith, twice x, count-append x (hashes_of u.inputs) (all_inputs (map compact us)))),
   )
     where
       shared : (cs ds : List Coin) → cs ≡ ds → 0 < length cs → ((x : Digest) → count x (hashes_of cs) + count x (hashes_of ds) ≤ 1) → ⊥
@@ -56,14 +63,17 @@ module _ (mint : List Output) (handed : List FullTx) (clean : Clean mint handed)
           let there : count (coin_hash c) (hashes_of (c ∷ cs)) ≡ count (coin_hash c) (hashes_of ds) = ap (λ l. count (coin_hash c) (hashes_of l)) e in
           omega (arith, here, there, once (coin_hash c))
 
-      apart : (t u : FullTx) → IsMember mint handed t → IsMember mint handed u → 0 < length t.inputs → ((x : Digest) → count x (hashes_of t.inputs) + count x (hashes_of u.inputs) ≤ 1) → tx_id t ≡ tx_id u → ⊥
+      apart : (t u : FullTx) → IsMember mint handed t → IsMember mint handed u → 0 < length t.inputs
+          → ((x : Digest) → count x (hashes_of t.inputs) + count x (hashes_of u.inputs) ≤ 1) → tx_id t ≡ tx_id u → ⊥
       apart t u m n some once e = shared t.inputs u.inputs (clean.ids t u m n e).0 some once
 
-  pub distinct_ids : (ts : List FullTx) → AreReady mint handed clean ts → ((x : Digest) → spent_of ts x ≤ 1) → IsDistinct same_digest (map (λ k. k.id) (map compact ts))
+  pub distinct_ids : (ts : List FullTx) → AreReady mint handed clean ts → ((x : Digest) → spent_of ts x ≤ 1)
+      → IsDistinct same_digest (map (λ k. k.id) (map compact ts))
   unfolding IsDistinct
   distinct_ids [] ready once = tt
   distinct_ids (t ∷ ts) ready once = (
-    no_later_id t ts ready.0 ready.1 (members ts ready.2) (λ x. omega (arith, once x, count-append x (hashes_of t.inputs) (all_inputs (map compact ts)))),
+    no_later_id t ts ready.0 ready.1 (members ts ready.2)
+        (λ x. omega (arith, once x, count-append x (hashes_of t.inputs) (all_inputs (map compact ts)))),
     distinct_ids ts ready.2 (λ x. omega (arith, once x, count-append x (hashes_of t.inputs) (all_inputs (map compact ts)))),
   )
     where
@@ -72,5 +82,6 @@ module _ (mint : List Output) (handed : List FullTx) (clean : Clean mint handed)
       members (v ∷ us) ready u (inl e) = subst (IsMember mint handed) (sym e) ready.0
       members (v ∷ us) ready u (inr i) = members us ready.2 u i
 
-  pub no_id_twice : (ts : List FullTx) (b : Book) → SoFar mint handed clean ts b → AreReady mint handed clean ts → IsDistinct same_digest (map (λ k. k.id) (map compact ts))
+  pub no_id_twice : (ts : List FullTx) (b : Book) → SoFar mint handed clean ts b → AreReady mint handed clean ts
+      → IsDistinct same_digest (map (λ k. k.id) (map compact ts))
   no_id_twice ts b so ready = distinct_ids ts ready (λ x. once ts b so x)

@@ -13,7 +13,8 @@ use Rattle.audit.specs.Accounts.{EachSpends, IsAccounted}
 
 -- journals begin with the first records of some mint with the ledger's id
 abbrev pub BegunLaw : Type 0
-BegunLaw = (K : Shape) (genesis : Digest) (J : ℕ → List Record) → 0 < K.shards → AreLedgerJournals K genesis J → (m : Minted) × (m.id ≡ genesis) × BeginAs K m J
+BegunLaw = (K : Shape) (genesis : Digest) (J : ℕ → List Record) → 0 < K.shards → AreLedgerJournals K genesis J
+    → (m : Minted) × (m.id ≡ genesis) × BeginAs K m J
 
 -- any transactions may be prepared
 abbrev pub AnyForm : Compact → Type 0
@@ -21,11 +22,14 @@ AnyForm k = Unit {0}
 
 -- of caused rows each record is after its journal and was caused by beginnings of the journals
 abbrev pub CausedListsLaw : Type 0
-CausedListsLaw = (K : Shape) (m : Minted) (past : List Row) → AreLedgerJournals K m.id (λ n. journal n past) → BeginAs K m (λ n. journal n past) → AllCaused K past
+CausedListsLaw = (K : Shape) (m : Minted) (past : List Row) → AreLedgerJournals K m.id (λ n. journal n past) → BeginAs K m (λ n. journal n past)
+    → AllCaused K past
     → KeptLists K m AnyForm (λ n. journal n past)
 
 -- a sound verdict accounts for all money
 abbrev pub AccountLaw : Type 0
-AccountLaw = (K : Shape) (mint : List Output) (handed : List FullTx) (rows : List Row) (totals : Totals) → 0 < K.shards → AreLedgerJournals K (genesis_id mint) (journals_of rows)
-    → IsOrdered (reverse rows) → BeginAs K (minted mint) (journals_of rows) → Clean mint handed → EachSpends (reverse rows) → IsSoundHistory K mint handed rows totals
+AccountLaw = (K : Shape) (mint : List Output) (handed : List FullTx) (rows : List Row) (totals : Totals) → 0 < K.shards
+    → AreLedgerJournals K (genesis_id mint) (journals_of rows)
+    → IsOrdered (reverse rows) → BeginAs K (minted mint) (journals_of rows) → Clean mint handed → EachSpends (reverse rows)
+    → IsSoundHistory K mint handed rows totals
     → IsAccounted K mint handed (journals_of rows) totals

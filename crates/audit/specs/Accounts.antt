@@ -35,7 +35,8 @@ pub record IsAccounted (K : Shape) (mint : List Output) (handed : List FullTx) (
   pub later : List Row
   pub history : IsHistory K (minted mint) J later
   pub caused : AllCaused K (history_of K mint later)
-  pub done : (b : Batch) → is_some (record_of prepare_kind (J (home_of K b.lane)) b) ≡ true → is_some (record_of done_kind (J (home_of K b.lane)) b) ≡ true
+  pub done : (b : Batch) → is_some (record_of prepare_kind (J (home_of K b.lane)) b) ≡ true
+      → is_some (record_of done_kind (J (home_of K b.lane)) b) ≡ true
   pub txs : List FullTx
   pub committed : AreCommitted handed (history_of K mint later) txs
   pub book : Book

@@ -1,5 +1,6 @@
 -- What the parts of an audit keep: the book in a map, the handed-in transactions by their ids, and what is spent so far.
-use Rattle.std.specs.Prelude.{◌≡◌, ◌<◌, ℕ, Bool, true, false, ◌&&◌, nat_eq, List, [], length, sum_by, find, Option, Some, None, option_map, slice_index_or}
+use Rattle.std.specs.Prelude.{◌≡◌, ◌<◌, ℕ, Bool, true, false, ◌&&◌, nat_eq, List, [], length, sum_by, find, Option, Some, None, option_map}
+use Rattle.std.specs.Prelude.{slice_index_or}
 use Rattle.std.specs.HashMap.{get, values, hash_map_len}
 use Rattle.std.specs.FinMap as book
 use Rattle.base_types.specs.contracts.hash.HashPartialEq.TheImpl.{eq-value}
@@ -70,5 +71,6 @@ pub record HasSpent (mint : List Output) (handed : List FullTx) (forms : List Co
 -- what a walk says: all is known, caused and spent, or something is wrong at a place
 abbrev pub IsWalked : Shape → List Output → List FullTx → List (List Record) → List Place → Fold → Walked → Type 0
 IsWalked K mint handed all h fold (Whole known) =
-    Knows all known (λ n. journal n (newest_first all h)) × AllCaused K (newest_first all h) × HasSpent mint handed (committed (newest_first all h)) fold
+    Knows all known (λ n. journal n (newest_first all h)) × AllCaused K (newest_first all h)
+    × HasSpent mint handed (committed (newest_first all h)) fold
 IsWalked K mint handed all h fold (Stopped place kind) = IsFirstUnsound K mint handed (rows_at all h) place kind

@@ -20,7 +20,8 @@ index_of k n kind b = get same_record_key k.indices (n, kind, b.lane, b.number)
 -- what is kept are the newest records of each kind of each batch in the journals J, and their last stamps
 pub record Knows (all : List (List Record)) (k : Known) (J : ℕ → List Record) : Type 0 where
   pub inside : (n kind : ℕ) (b : Batch) (i : ℕ) → index_of k n kind b ≡ Some i → i < length (journal_in all n)
-  pub newest : (n kind : ℕ) (b : Batch) → option_map (λ i. record_at all (record { node = n; index = i })) (index_of k n kind b) ≡ record_of kind (J n) b
+  pub newest : (n kind : ℕ) (b : Batch) → option_map (λ i. record_at all (record { node = n; index = i })) (index_of k n kind b)
+      ≡ record_of kind (J n) b
   pub stamps : (n : ℕ) → unwrap_or (get nat_eq k.stamps n) 0 ≡ last_stamp (J n)
 
 -- the reply to a place by the entries so far, and by one more

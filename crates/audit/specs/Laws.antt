@@ -13,7 +13,8 @@ use Rattle.audit.specs.Verdicts.{IsSoundHistory, IsVerdict}
 
 -- a history has one verdict
 abbrev pub OneVerdictLaw : Type 0
-OneVerdictLaw = (K : Shape) (mint : List Output) (handed : List FullTx) (rows : List Row) (v w : Verdict) → IsVerdict K mint handed rows v → IsVerdict K mint handed rows w → v ≡ w
+OneVerdictLaw = (K : Shape) (mint : List Output) (handed : List FullTx) (rows : List Row) (v w : Verdict) → IsVerdict K mint handed rows v
+    → IsVerdict K mint handed rows w → v ≡ w
 
 -- each row behind the first ones is after those of its journal
 abbrev pub AllAfter : Shape → Minted → List Row → Type 0
@@ -22,7 +23,8 @@ AllAfter K m (row ∷ later) = After (header_of K m.id row.node) (journal row.no
 
 -- rows in order that have the journals of a ledger are its history
 abbrev pub OrderedLaw : Type 0
-OrderedLaw = (K : Shape) (mint : List Output) (J : ℕ → List Record) (later rows : List Row) → AllAfter K (minted mint) later → IsHistory K (minted mint) J later
+OrderedLaw = (K : Shape) (mint : List Output) (J : ℕ → List Record) (later rows : List Row) → AllAfter K (minted mint) later
+    → IsHistory K (minted mint) J later
     → IsOrdered rows → ((n : ℕ) → journal n rows ≡ J n) → rows ≡ history_of K mint later
 
 -- of a sound history whose first rows are a mint's and whose later ones follow their journals, where no hashes clash and each committed

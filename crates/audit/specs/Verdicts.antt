@@ -27,8 +27,10 @@ pub record Passes (K : Shape) (mint : List Output) (handed : List FullTx) (past 
 -- what is wrong with a row behind these: it is not caused, or it is and something is wrong with what it commits
 abbrev pub IsRowFault : Shape → List Output → List FullTx → List Row → Row → UnsoundKind → Type 0
 IsRowFault K mint handed past row Cause = IsRowCaused K past row → ⊥
-IsRowFault K mint handed past row (Unknown id) = IsRowCaused K past row × IsFirstWrong mint handed (committed past) (newly_won row.what (journal row.node past)) (Unknown id)
-IsRowFault K mint handed past row (Unfunded id) = IsRowCaused K past row × IsFirstWrong mint handed (committed past) (newly_won row.what (journal row.node past)) (Unfunded id)
+IsRowFault K mint handed past row (Unknown id) = IsRowCaused K past row
+    × IsFirstWrong mint handed (committed past) (newly_won row.what (journal row.node past)) (Unknown id)
+IsRowFault K mint handed past row (Unfunded id) = IsRowCaused K past row
+    × IsFirstWrong mint handed (committed past) (newly_won row.what (journal row.node past)) (Unfunded id)
 IsRowFault K mint handed past row Unfinished = ⊥
 
 -- the row at this place of a history, the oldest of which is the first, is the first with which something is wrong

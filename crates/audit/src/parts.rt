@@ -36,7 +36,8 @@ pub enum PartVerdict {
 /// Walks over a history as `audit` does, but that batches may be open at its end. The answer is the first failure, or how many hashes are unspent,
 /// held and owed behind it, what the coins of the last book come to, and what was minted.
 ///
-/// Of the cut of a ledger at work `cut_audit` shows that nothing is wrong with it and that the value is what was minted.
+/// Of the cut of a ledger at work `cut_audit` shows that nothing is wrong with it and that the value is what was minted, where no two outputs share
+/// a hash.
 pub fn audit_part<W: Threads + Sync>(
     rt: &W,
     alloc: Global,

@@ -23,7 +23,8 @@ joined_more [] x = sym (append-nil x)
 joined_more {A} (y ∷ lists) x = append_assoc y (joined lists) x ∙ ap (λ (l : List A). y ++ l) (joined_more lists x)
 
 -- a file that is not read, by a count of faults that was lower before
-pub not_read_later : {X : Type 0} (place : ℕ) (held : Option (List ℕ)) (read : List ℕ → Result X BadFile) (before mid now : ℕ) (a : Answer) → before ≤ mid → IsNotRead place held read mid now a → IsNotRead place held read before now a
+pub not_read_later : {X : Type 0} (place : ℕ) (held : Option (List ℕ)) (read : List ℕ → Result X BadFile) (before mid now : ℕ) (a : Answer)
+    → before ≤ mid → IsNotRead place held read mid now a → IsNotRead place held read before now a
 not_read_later place held read before mid now answers.Ok later is = is
 not_read_later place held read before mid now answers.BadWords later is = is
 not_read_later place held read before mid now (answers.BadInput file at kind) later is = is
@@ -48,7 +49,8 @@ module _ (mid old : Text → Option (List ℕ)) (same : (name : Text) → mid na
   are_read_same (file ∷ files) [] n are = absurd are
   are_read_same (file ∷ files) (t ∷ txs) n are = (λ c told. are.0 c (same file.name.now ∙ told), are_read_same files txs (n + length t) are.1)
 
-  pub first_later : (before between now : Text → ℕ) (files : List FileWord) (a : Answer) → ((name : Text) → before name ≤ between name) → FirstNotRead mid between now files a → FirstNotRead old before now files a
+  pub first_later : (before between now : Text → ℕ) (files : List FileWord) (a : Answer) → ((name : Text) → before name ≤ between name)
+      → FirstNotRead mid between now files a → FirstNotRead old before now files a
   first_later before between now files a later first =
       let name : Text = first.file.name.now in
       record {

@@ -1,7 +1,9 @@
 -- A field that is read is the field that was written, and what was written is read again.
-use Rattle.std.proofs.Common.{◌≡◌, ℕ, ◌+◌, ◌^◌, ◌<◌, ◌≤◌, ◌⊎◌, Bool, true, false, cond, ltb, List, ◌++◌, length, take, drop, Result, Ok, Err, refl, sym, ap, ap₂, subst, ◌∙◌, append_assoc, arith, inl, inr}
+use Rattle.std.proofs.Common.{◌≡◌, ℕ, ◌+◌, ◌^◌, ◌<◌, ◌≤◌, ◌⊎◌, Bool, true, false, cond, ltb, List, ◌++◌, length, take, drop, Result, Ok, Err, refl}
+use Rattle.std.proofs.Common.{sym, ap, ap₂, subst, ◌∙◌, append_assoc, arith, inl, inr}
 use Rattle.std.proofs.lemmas.Bool.{cases_lt, ltb-false, le-ltb}
-use Rattle.std.proofs.lemmas.List.{take_at, drop_at, take_all, take-append-drop, length-append, length-take, length-drop, get_or-drop, get_or-take, get_or_past}
+use Rattle.std.proofs.lemmas.List.{take_at, drop_at, take_all, take-append-drop, length-append, length-take, length-drop, get_or-drop, get_or-take}
+use Rattle.std.proofs.lemmas.List.{get_or_past}
 use Rattle.std.proofs.lemmas.Nat.{le_bytes_8, from_le_bytes-to_le_bytes_8}
 use Rattle.cbdc_types.specs.declared.tx.OutPoint.{OutPoint}
 use Rattle.cbdc_types.specs.declared.tx.Output.{Output}
@@ -35,7 +37,8 @@ guard_ok true d r y e = absurd cc
 guard_ok false d r y e = (refl, e)
 
 -- the fault of a step, or of what comes behind it
-pub bind_err : {A B : Type 0} (r : Result A Fault) (f : A → Result B Fault) (d : Fault) → (r >>= f) ≡ Err d → (r ≡ Err d) ⊎ ((x : A) × (r ≡ Ok x) × (f x ≡ Err d))
+pub bind_err : {A B : Type 0} (r : Result A Fault) (f : A → Result B Fault) (d : Fault) → (r >>= f) ≡ Err d
+    → (r ≡ Err d) ⊎ ((x : A) × (r ≡ Ok x) × (f x ≡ Err d))
 bind_err (Ok x) f d e = inr (x, refl, e)
 bind_err {A = A} (Err c) f d e = inl (let same : c ≡ d = cc in ap (λ (k : Fault). failed {A = A} k) same)
   where
@@ -75,11 +78,13 @@ pub record IsRead {X : Type 0} (read : List ℕ → Result (X × List ℕ) Fault
   pub takes : (bytes : List ℕ) (x : X) (rest : List ℕ) → IsBytes bytes → read bytes ≡ Ok (x, rest) → Takes bytes (spelled x) rest × Fits x
   pub again : (x : X) (rest : List ℕ) → Fits x → read (spelled x ++ rest) ≡ Ok (x, rest)
 
-pub read_of : {X : Type 0} (read : List ℕ → Result (X × List ℕ) Fault) (spelled : X → List ℕ) (Fits : X → Type 0) → IsItem read spelled Fits → IsRead read spelled Fits
+pub read_of : {X : Type 0} (read : List ℕ → Result (X × List ℕ) Fault) (spelled : X → List ℕ) (Fits : X → Type 0) → IsItem read spelled Fits
+    → IsRead read spelled Fits
 read_of read spelled Fits item = record { takes = item.takes; again = item.again }
 
 -- a field of n bytes
-pub field_is : {X : Type 0} (n : ℕ) (of : List ℕ → X) (bytes : List ℕ) (x : X) (rest : List ℕ) → field_at n of bytes ≡ Ok (x, rest) → (n ≤ length bytes) × (of (take n bytes) ≡ x) × (drop n bytes ≡ rest)
+pub field_is : {X : Type 0} (n : ℕ) (of : List ℕ → X) (bytes : List ℕ) (x : X) (rest : List ℕ) → field_at n of bytes ≡ Ok (x, rest)
+    → (n ≤ length bytes) × (of (take n bytes) ≡ x) × (drop n bytes ≡ rest)
 field_is {X = X} n of bytes x rest e =
     let g = guard_ok (ltb (length bytes) n) (fault Cut bytes) (done (of (take n bytes), drop n bytes)) (x, rest) e in
     let p = ok_is (of (take n bytes), drop n bytes) (x, rest) g.1 in
@@ -130,7 +135,8 @@ pub number_below : (b : List ℕ) → IsBytes b → number_of b < 2 ^ 64
 number_below b fits = omega (arith, fits 0, fits 1, fits 2, fits 3, fits 4, fits 5, fits 6, fits 7)
 
 pub number_item : IsItem number_at number FitsNumber
-number_item = field_item 8 number_of number FitsNumber (λ b len fits. (number_back b len fits, number_below b fits)) (λ n lt. (length-number n, number_of-number n lt))
+number_item = field_item 8 number_of number FitsNumber (λ b len fits. (number_back b len fits, number_below b fits))
+    (λ n lt. (length-number n, number_of-number n lt))
 
 pub hash_item : IsItem hash_at (λ h. h) FitsHash
 hash_item = field_item 32 hash_of (λ h. h) FitsHash
@@ -158,7 +164,8 @@ point_same : (i : Input) → FitsInput i → point_of (point_text i.point) ≡ i
 unfolding point_text
 point_same i fits =
     let front : take 32 (point_text i.point) ≡ i.point.tx = take_at i.point.tx (number i.point.index) 32 fits.tx in
-    let back : number_of (drop 32 (point_text i.point)) ≡ i.point.index = ap number_of (drop_at i.point.tx (number i.point.index) 32 fits.tx) ∙ number_of-number i.point.index fits.index in
+    let back : number_of (drop 32 (point_text i.point)) ≡ i.point.index =
+    ap number_of (drop_at i.point.tx (number i.point.index) 32 fits.tx) ∙ number_of-number i.point.index fits.index in
     ap₂ (λ (t : List ℕ) (n : ℕ). made t n) front back
   where
     made : List ℕ → ℕ → OutPoint
@@ -168,7 +175,8 @@ output_same : (o : Output) → FitsOutput o → output_of (output o) ≡ o
 unfolding output_of
 output_same o fits =
     let front : take 32 (output o) ≡ o.program = take_at o.program (number o.value) 32 fits.program in
-    let back : number_of (drop 32 (output o)) ≡ o.value = ap number_of (drop_at o.program (number o.value) 32 fits.program) ∙ number_of-number o.value fits.value in
+    let back : number_of (drop 32 (output o)) ≡ o.value =
+    ap number_of (drop_at o.program (number o.value) 32 fits.program) ∙ number_of-number o.value fits.value in
     ap₂ (λ (p : List ℕ) (v : ℕ). made p v) front back
   where
     made : List ℕ → ℕ → Output
@@ -182,7 +190,8 @@ output_comes_back b len fits =
       record { program = omega (arith, length-take 32 b); value = number_below (drop 32 b) rest },
     )
 
-point_comes_back : (b : List ℕ) → length b ≡ 40 → IsBytes b → (point_text (point_of b) ≡ b) × (length (take 32 b) ≡ 32) × (number_of (drop 32 b) < 2 ^ 64)
+point_comes_back : (b : List ℕ) → length b ≡ 40 → IsBytes b
+    → (point_text (point_of b) ≡ b) × (length (take 32 b) ≡ 32) × (number_of (drop 32 b) < 2 ^ 64)
 unfolding point_text
 point_comes_back b len fits =
     let rest = IsBytes-drop 32 b fits in (
@@ -204,8 +213,12 @@ input_same : (i : Input) → FitsInput i → input_of (input i) ≡ i
 unfolding input_of
 input_same i fits =
     let split = input_parts i in
-    let front : point_of (take 40 (input i)) ≡ i.point = ap (λ (l : List ℕ). point_of (take 40 l)) split ∙ ap point_of (take_at (point_text i.point) (output i.output) 40 (point_length i fits)) ∙ point_same i fits in
-    let back : output_of (drop 40 (input i)) ≡ i.output = ap (λ (l : List ℕ). output_of (drop 40 l)) split ∙ ap output_of (drop_at (point_text i.point) (output i.output) 40 (point_length i fits)) ∙ output_same i.output fits.output in
+    let front : point_of (take 40 (input i)) ≡ i.point =
+    ap (λ (l : List ℕ). point_of (take 40 l)) split ∙ ap point_of (take_at (point_text i.point) (output i.output) 40 (point_length i fits))
+    ∙ point_same i fits in
+    let back : output_of (drop 40 (input i)) ≡ i.output =
+    ap (λ (l : List ℕ). output_of (drop 40 l)) split ∙ ap output_of (drop_at (point_text i.point) (output i.output) 40 (point_length i fits))
+    ∙ output_same i.output fits.output in
     ap₂ (λ (p : OutPoint) (o : Output). made p o) front back
   where
     made : OutPoint → Output → Input
@@ -213,7 +226,15 @@ input_same i fits =
 
 pub input_item : IsItem input_at input FitsInput
 input_item = field_item 80 input_of input FitsInput input_comes_back
-    (λ i fits. (ap length (input_parts i) ∙ omega (arith, length-append (point_text i.point) (output i.output), point_length i fits, output_length i.output fits.output), input_same i fits))
+    (λ i fits. (
+      ap length (input_parts i) ∙ omega (
+        arith,
+        length-append (point_text i.point) (output i.output),
+        point_length i fits,
+        output_length i.output fits.output,
+      ),
+      input_same i fits,
+    ))
 
 pub output_item : IsItem output_at output FitsOutput
 output_item = field_item 40 output_of output FitsOutput output_comes_back (λ o fits. (output_length o fits, output_same o fits))
@@ -233,13 +254,17 @@ witness_item = record {
       let short = guard_ok (ltb 4096 n.0) (fault TooLong bytes) (content n.0 n.1) (w, rest) step.2 in
       let f = field_is n.0 (λ (l : List ℕ). l) n.1 w rest short.1 in
       let len : length w ≡ n.0 = ap length (sym f.1) ∙ omega (arith, length-take n.0 n.1, f.0) in
-      let tail : Takes n.1 w rest = record { parts = sym (take-append-drop n.0 n.1) ∙ ap₂ (λ (l r : List ℕ). l ++ r) f.1 f.2; rest_fits = subst IsBytes f.2 (IsBytes-drop n.0 n.1 number_taken.0.rest_fits) } in (
+      let tail : Takes n.1 w rest = record {
+        parts = sym (take-append-drop n.0 n.1) ∙ ap₂ (λ (l r : List ℕ). l ++ r) f.1 f.2;
+        rest_fits = subst IsBytes f.2 (IsBytes-drop n.0 n.1 number_taken.0.rest_fits);
+      } in (
         subst (λ (k : ℕ). Takes bytes (number k ++ w) rest) (sym len) (Takes-then bytes (number n.0) n.1 w rest number_taken.0 tail),
         omega (arith, len, ltb-false _ _ short.0),
       );
   again = λ w rest fits.
       let whole : witness w ++ rest ≡ number (length w) ++ (w ++ rest) = append_assoc (number (length w)) w rest in
-      let first : number_at (number (length w) ++ (w ++ rest)) ≡ Ok (length w, w ++ rest) = number_item.again (length w) (w ++ rest) (omega (arith, fits)) in
+      let first : number_at (number (length w) ++ (w ++ rest)) ≡ Ok (length w, w ++ rest) =
+      number_item.again (length w) (w ++ rest) (omega (arith, fits)) in
       let short : ltb 4096 (length w) ≡ false = le-ltb _ _ fits in
       ap witness_at whole ∙ rw (first, short) (field_again (length w) (λ (l : List ℕ). l) w rest refl);
   early = λ bytes f fits e.

@@ -10,5 +10,6 @@ use Rattle.byte_laws.specs.Bodies.{EachBodyLaw}
 
 pub each_body : EachBodyLaw
 each_body h k q r rest one other in_one in_other same =
-    let p = ok_is (q, []) (r, rest) (sym (is_read h (body_of q) q one (refl, in_one)) ∙ ap body_at same ∙ body_read.again r rest (fits_record k r other in_other)) in
+    let p = ok_is (q, []) (r, rest) (sym (is_read h (body_of q) q one (refl, in_one)) ∙ ap body_at same
+    ∙ body_read.again r rest (fits_record k r other in_other)) in
     (ap (λ (x : Record × List ℕ). x.0) p, sym (ap (λ (x : Record × List ℕ). x.1) p))

@@ -11,7 +11,8 @@ use Rattle.client_files.specs.Files.{clients_in, mint_in}
 -- 1,000,000 with those of the files before it
 abbrev pub ClientFileLaw : Type 0
 ClientFileLaw = (before : ℕ) (bytes : List ℕ) (txs : List FullTx) → IsBytes bytes
-    → (clients_in before false bytes ≡ Ok txs) ↔ ((bytes ≡ counted transaction txs) × (before + length txs ≤ 1000000) × AllByRecursion FitsTransaction txs)
+    → (clients_in before false bytes ≡ Ok txs) ↔ ((bytes ≡ counted transaction txs) × (before + length txs ≤ 1000000)
+    × AllByRecursion FitsTransaction txs)
 
 -- a minted output has a value
 abbrev pub FitsMinted : Output → Type 0
@@ -19,4 +20,5 @@ FitsMinted o = FitsOutput o × (1 ≤ o.value)
 
 -- a mint file is read just where it is the number of its outputs, then they, each of value at least 1, and then its end
 abbrev pub MintFileLaw : Type 0
-MintFileLaw = (bytes : List ℕ) (mint : List Output) → IsBytes bytes → (mint_in false bytes ≡ Ok mint) ↔ ((bytes ≡ counted output mint) × FitsList 1000000 FitsMinted mint)
+MintFileLaw = (bytes : List ℕ) (mint : List Output) → IsBytes bytes
+    → (mint_in false bytes ≡ Ok mint) ↔ ((bytes ≡ counted output mint) × FitsList 1000000 FitsMinted mint)

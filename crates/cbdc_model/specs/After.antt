@@ -1,6 +1,7 @@
 -- Which record may come next at a node, by its journal alone.
 use Rattle.std.specs.Prelude.{◌≡◌, ◌+◌, ◌<◌, Bool, true, List, [], ◌∷◌, length}
-use Rattle.cbdc_model.specs.Records.{Header, Answered, Record, is_held, txs_of, lock_of, last_stamp, Genesis, Lock, Finish, Forget, Start, Prepare, Commit, Discard, Done}
+use Rattle.cbdc_model.specs.Records.{Header, Answered, Record, is_held, txs_of, lock_of, last_stamp, Genesis, Lock, Finish, Forget, Start, Prepare}
+use Rattle.cbdc_model.specs.Records.{Commit, Discard, Done}
 use Rattle.cbdc_model.specs.Slots.{slot, Idle, InLock, InFinish, InPrepare, InCommit, InDiscard}
 use Rattle.cbdc_model.specs.Replies.{answered, entries}
 use Rattle.cbdc_model.specs.Ranges.{home_of}

@@ -1,6 +1,8 @@
 -- What a record rests on: its causes stand, it agrees with them, and its stamp is one more than the greatest before it.
 use Rattle.std.specs.Prelude.{◌≡◌, ℕ, zero, suc, max, true, List, Option, is_some}
-use Rattle.cbdc_model.specs.Records.{Shape, Batch, Compact, Record, record_of, entries_in, txs_in, outcomes_in, stamp_in, txs_of, lock_of, Genesis, Lock, Finish, Forget, Start, Prepare, Commit, Discard, Done, lock_kind, finish_kind, forget_kind, prepare_kind, commit_kind, discard_kind}
+use Rattle.cbdc_model.specs.Records.{Shape, Batch, Compact, Record, record_of, entries_in, txs_in, outcomes_in, stamp_in, txs_of, lock_of, Genesis}
+use Rattle.cbdc_model.specs.Records.{Lock, Finish, Forget, Start, Prepare, Commit, Discard, Done, lock_kind, finish_kind, forget_kind, prepare_kind}
+use Rattle.cbdc_model.specs.Records.{commit_kind, discard_kind}
 use Rattle.cbdc_model.specs.Replies.{entries}
 use Rattle.cbdc_model.specs.Ranges.{shard_node, home_of, part, Concerned}
 use Rattle.cbdc_model.specs.Outcomes.{outcomes, decisions}

@@ -18,7 +18,8 @@ IsNamed mint submissions c = (t : FullTx) × IsMember mint submissions t × (Con
 
 -- members that differ in inputs or outputs have different ids, and different coins that members spend or make have different hashes
 pub record Clean (mint : List Output) (submissions : List FullTx) : Type 0 where
-  pub ids : (t u : FullTx) → IsMember mint submissions t → IsMember mint submissions u → tx_id t ≡ tx_id u → (t.inputs ≡ u.inputs) × (t.outputs ≡ u.outputs)
+  pub ids : (t u : FullTx) → IsMember mint submissions t → IsMember mint submissions u → tx_id t ≡ tx_id u
+      → (t.inputs ≡ u.inputs) × (t.outputs ≡ u.outputs)
   pub hashes : (c d : Coin) → IsNamed mint submissions c → IsNamed mint submissions d → coin_hash c ≡ coin_hash d → c ≡ d
 
 -- the sum of the values that inputs claim

@@ -104,7 +104,8 @@ commit_record K lane replies J =
 -- what a call to decide is owed at a coordinator with this journal
 abbrev pub decide_due : Shape → ℕ → List ShardReplies → Option ℕ → List Record → Due ℕ
 decide_due K lane replies broken J =
-    unless_broken broken (if_early last_late (next_stamp J (reply_cause K replies)) (Writes (next_stamp J (reply_cause K replies)) (commit_record K lane replies J)))
+    unless_broken broken (if_early last_late (next_stamp J (reply_cause K replies))
+    (Writes (next_stamp J (reply_cause K replies)) (commit_record K lane replies J)))
 
 -- the Discard of the lane's open batch
 abbrev pub discard_record : ℕ → ℕ → List Record → Record
@@ -112,7 +113,8 @@ discard_record lane cause J = Discard (next_stamp J cause) (open_batch J lane)
 
 -- what a call to discard is owed at a coordinator with this journal
 abbrev pub discard_due : ℕ → ℕ → Option ℕ → List Record → Due ℕ
-discard_due lane cause broken J = unless_broken broken (if_early last_late (next_stamp J cause) (Writes (next_stamp J cause) (discard_record lane cause J)))
+discard_due lane cause broken J = unless_broken broken
+    (if_early last_late (next_stamp J cause) (Writes (next_stamp J cause) (discard_record lane cause J)))
 
 -- the Done of the lane's open batch
 abbrev pub done_record : ℕ → ℕ → List Record → Record

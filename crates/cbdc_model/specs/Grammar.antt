@@ -1,6 +1,7 @@
 -- Which records may stand in a journal with a header, whatever stands before them.
 use Rattle.std.specs.Prelude.{◌≡◌, ℕ, ◌+◌, ◌*◌, ◌^◌, ◌<◌, ◌≤◌, List, [], ◌∷◌, length, All}
-use Rattle.cbdc_model.specs.Records.{Digest, Shape, Header, Batch, Compact, Reply, Outcome, Answered, Record, Held, Missing, Taken, Won, Lacks, Blocked, Genesis, Lock, Finish, Forget, Start, Prepare, Commit, Discard, Done}
+use Rattle.cbdc_model.specs.Records.{Digest, Shape, Header, Batch, Compact, Reply, Outcome, Answered, Record, Held, Missing, Taken, Won, Lacks}
+use Rattle.cbdc_model.specs.Records.{Blocked, Genesis, Lock, Finish, Forget, Start, Prepare, Commit, Discard, Done}
 use Rattle.cbdc_model.specs.Ranges.{shard_of, shard_node}
 
 -- a stamp from 1 to 2^62, as a Lock or a Prepare has

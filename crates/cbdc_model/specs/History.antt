@@ -1,6 +1,7 @@
 -- Histories: the records of all nodes in one order, the newest row first. Which are kept, and what they commit.
 use Rattle.std.specs.Prelude.{◌≡◌, ℕ, zero, suc, Bool, true, ◌&&◌, ◌||◌, ◌==◌, nat_lt, List, [], ◌∷◌, ◌++◌, All, find, Option, Some}
-use Rattle.cbdc_model.specs.Records.{Digest, same_digest, Shape, Header, Batch, Compact, Record, Row, journal, stamp_of, txs_of, outcomes_of, Genesis, Start, Prepare, Commit}
+use Rattle.cbdc_model.specs.Records.{Digest, same_digest, Shape, Header, Batch, Compact, Record, Row, journal, stamp_of, txs_of, outcomes_of, Genesis}
+use Rattle.cbdc_model.specs.Records.{Start, Prepare, Commit}
 use Rattle.cbdc_model.specs.Ranges.{shard_node, on_shard, lane_journal}
 use Rattle.cbdc_model.specs.Outcomes.{won_txs}
 use Rattle.cbdc_model.specs.After.{After}

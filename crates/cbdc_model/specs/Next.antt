@@ -1,8 +1,10 @@
 -- What a shard with a journal answers to a call: the record that it appends, what it answered before, or why it refuses.
-use Rattle.std.specs.Prelude.{ℕ, suc, max, Bool, true, false, ◌&&◌, ◌||◌, not, ◌==◌, nat_lt, List, [], ◌∷◌, if◌then◌else◌, Option, Some, None, option_map}
+use Rattle.std.specs.Prelude.{ℕ, suc, max, Bool, true, false, ◌&&◌, ◌||◌, not, ◌==◌, nat_lt, List, [], ◌∷◌, if◌then◌else◌, Option, Some, None}
+use Rattle.std.specs.Prelude.{option_map}
 use Rattle.cbdc_types.specs.declared.calls.Refused.{Refused}
 use Rattle.cbdc_types.specs.declared.calls.Refused.TheVariants.{Stale, LaneOpen, NotLocked, NotFinished, OtherPart, OtherOutcome, EarlyStamp}
-use Rattle.cbdc_model.specs.Records.{Digest, same_digest, Batch, Entry, Reply, Answered, Record, record_of, lock_of, decisions_in, stamp_in, is_held, last_stamp, lock_kind, finish_kind}
+use Rattle.cbdc_model.specs.Records.{Digest, same_digest, Batch, Entry, Reply, Answered, Record, record_of, lock_of, decisions_in, stamp_in, is_held}
+use Rattle.cbdc_model.specs.Records.{last_stamp, lock_kind, finish_kind}
 use Rattle.cbdc_model.specs.Slots.{Phase, slot, slot_stamp, Idle, InLock, InFinish, InPrepare, InCommit, InDiscard}
 use Rattle.cbdc_model.specs.Replies.{answered, entries, replies}
 
@@ -105,7 +107,8 @@ next_finish J b ds cause =
 -- the answer to a Forget of the lane's batch, by its phase
 abbrev pub forget_in : Phase → List Record → Batch → ℕ → Plan ℕ
 forget_in Idle J b cause = Kept (slot_stamp J b.lane)
-forget_in InFinish J b cause = if not (nat_lt (slot_stamp J b.lane) cause) then Refuse (EarlyStamp (slot_stamp J b.lane)) else Append (next_stamp J cause)
+forget_in InFinish J b cause = if not (nat_lt (slot_stamp J b.lane) cause) then Refuse (EarlyStamp (slot_stamp J b.lane))
+    else Append (next_stamp J cause)
 forget_in other J b cause = Refuse (NotFinished b.number)
 
 -- Forget: an older number is stale, a newer one not locked; a forgotten batch answers as before; a locked one is not finished; a finished one takes

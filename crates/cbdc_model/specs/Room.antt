@@ -1,6 +1,7 @@
 -- How many bytes a record takes in its journal, and how many are kept free for records still to come.
 use Rattle.std.specs.Prelude.{ℕ, zero, suc, ◌+◌, ◌*◌, List, length, sum_by}
-use Rattle.cbdc_model.specs.Records.{Shape, Batch, Compact, Reply, Outcome, Answered, Record, txs_of, lock_of, Held, Missing, Taken, Won, Lacks, Blocked, Genesis, Lock, Finish, Forget, Start, Prepare, Commit, Discard, Done}
+use Rattle.cbdc_model.specs.Records.{Shape, Batch, Compact, Reply, Outcome, Answered, Record, txs_of, lock_of, Held, Missing, Taken, Won, Lacks}
+use Rattle.cbdc_model.specs.Records.{Blocked, Genesis, Lock, Finish, Forget, Start, Prepare, Commit, Discard, Done}
 use Rattle.cbdc_model.specs.Slots.{Phase, slot, Idle, InLock, InFinish, InPrepare, InCommit, InDiscard}
 
 -- the bytes of a reply

@@ -1,6 +1,7 @@
 -- What a shard's journal says of a hash, looking back over its records.
 use Rattle.std.specs.Prelude.{Bool, false, ◌||◌, List, [], ◌∷◌, ◌++◌, if◌then◌else◌}
-use Rattle.cbdc_model.specs.Records.{Digest, same_digest, lock_of, Answered, Record, is_held, Genesis, Lock, Finish, Forget, Start, Prepare, Commit, Discard, Done}
+use Rattle.cbdc_model.specs.Records.{Digest, same_digest, lock_of, Answered, Record, is_held, Genesis, Lock, Finish, Forget, Start, Prepare, Commit}
+use Rattle.cbdc_model.specs.Records.{Discard, Done}
 pub use Rattle.cbdc_types.specs.declared.batch.Status.{Status}
 pub use Rattle.cbdc_types.specs.declared.batch.Status.TheVariants.{Unspent, Locked, Absent}
 

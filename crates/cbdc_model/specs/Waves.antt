@@ -1,5 +1,6 @@
 -- What a run adds to the journals: it resumes what was open, and then takes one file of submissions after another.
-use Rattle.std.specs.Prelude.{◌≡◌, ℕ, suc, ◌*◌, ◌%◌, ◌<◌, Bool, true, false, ◌==◌, List, [], ◌∷◌, ◌++◌, map, reverse, length, take, drop, is_some, if◌then◌else◌}
+use Rattle.std.specs.Prelude.{◌≡◌, ℕ, suc, ◌*◌, ◌%◌, ◌<◌, Bool, true, false, ◌==◌, List, [], ◌∷◌, ◌++◌, map, reverse, length, take, drop, is_some}
+use Rattle.std.specs.Prelude.{if◌then◌else◌}
 use Rattle.std.specs.List.{filter}
 use Rattle.cbdc_model.specs.Records.{Shape, Batch, Compact, Record, record_of, is_of, Prepare, prepare_kind, done_kind}
 use Rattle.cbdc_model.specs.Ranges.{home_of}

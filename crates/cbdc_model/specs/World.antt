@@ -1,10 +1,13 @@
 -- The world: nodes with journals, what may happen to them, and what is kept whatever happens.
-use Rattle.std.specs.Prelude.{◌≡◌, ◌⊎◌, ℕ, ◌+◌, ◌-◌, ◌<◌, ◌*◌, ◌++◌, Bool, true, false, ◌&&◌, ◌==◌, nat_lt, List, [], ◌∷◌, map, length, if◌then◌else◌, Option, Some, None, is_some, slice_index_or, slice_set}
+use Rattle.std.specs.Prelude.{◌≡◌, ◌⊎◌, ℕ, ◌+◌, ◌-◌, ◌<◌, ◌*◌, ◌++◌, Bool, true, false, ◌&&◌, ◌==◌, nat_lt, List, [], ◌∷◌, map, length, if◌then◌else◌}
+use Rattle.std.specs.Prelude.{Option, Some, None, is_some, slice_index_or, slice_set}
 use Rattle.std.specs.List.{range_with_len}
 use Rattle.cbdc_types.specs.declared.calls.LockCall.{LockCall}
 use Rattle.cbdc_types.specs.declared.calls.FinishCall.{FinishCall}
 use Rattle.cbdc_types.specs.declared.calls.ForgetCall.{ForgetCall}
-use Rattle.cbdc_model.specs.Records.{Digest, Shape, Batch, Compact, Outcome, Record, Row, record_of, journal, outcomes_of, lock_of, decisions_in, kind_of, is_of, Genesis, Start, Lock, Finish, Forget, Prepare, Commit, Discard, lock_kind, finish_kind, forget_kind, prepare_kind, commit_kind, discard_kind}
+use Rattle.cbdc_model.specs.Records.{Digest, Shape, Batch, Compact, Outcome, Record, Row, record_of, journal, outcomes_of, lock_of, decisions_in}
+use Rattle.cbdc_model.specs.Records.{kind_of, is_of, Genesis, Start, Lock, Finish, Forget, Prepare, Commit, Discard, lock_kind, finish_kind}
+use Rattle.cbdc_model.specs.Records.{forget_kind, prepare_kind, commit_kind, discard_kind}
 use Rattle.cbdc_model.specs.Status.{status, Unspent}
 use Rattle.cbdc_model.specs.Slots.{slot, Idle}
 use Rattle.cbdc_model.specs.Replies.{answered, entries}
@@ -128,7 +131,11 @@ flushed (Some r) J = r ∷ J
 abbrev pub effect : World → Event → World
 effect w (Begin n r) = slice_set w n (record { journal = journals w n; up = true; flight = Some r })
 effect w (End n) = slice_set w n (record { journal = flushed (node_at w n).flight (journals w n); up = true; flight = None })
-effect w (Crash n kept) = slice_set w n (record { journal = if kept then flushed (node_at w n).flight (journals w n) else journals w n; up = false; flight = None })
+effect w (Crash n kept) = slice_set w n (record {
+  journal = if kept then flushed (node_at w n).flight (journals w n) else journals w n;
+  up = false;
+  flight = None;
+})
 effect w (Reopen n) = slice_set w n (record { journal = journals w n; up = true; flight = None })
 effect w (Repeat n call) = slice_set w n (record { journal = journals w n; up = true; flight = record_for (journals w n) call })
 
@@ -192,7 +199,8 @@ pub record IsAlike (K : Shape) (J : ℕ → List Record) (b : Batch) : Type 0 wh
   pub one_lock : (s : ℕ) → Concerned K (prepared_txs K J b) s → count_of lock_kind (J (shard_node K s)) b ≡ 1
   pub one_finish : (s : ℕ) → Concerned K (prepared_txs K J b) s → count_of finish_kind (J (shard_node K s)) b ≡ 1
   pub same_decisions : (s : ℕ) → Concerned K (prepared_txs K J b) s
-      → decisions_in (record_of finish_kind (J (shard_node K s)) b) ≡ decisions (outcomes_of (J (home_of K b.lane)) b) (part K.shards s 0 (prepared_txs K J b))
+      → decisions_in (record_of finish_kind (J (shard_node K s)) b)
+      ≡ decisions (outcomes_of (J (home_of K b.lane)) b) (part K.shards s 0 (prepared_txs K J b))
   pub no_other : (s kind : ℕ) → s < K.shards → is_no_part (part K.shards s 0 (prepared_txs K J b)) ≡ true
       → (kind ≡ lock_kind) ⊎ (kind ≡ finish_kind) ⊎ (kind ≡ forget_kind) → count_of kind (J (shard_node K s)) b ≡ 0
 

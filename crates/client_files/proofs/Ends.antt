@@ -10,13 +10,16 @@ module _ {X : Type 0} (len : ℕ) (more : Bool) (read : Result (X × List ℕ) F
   -- the items were read, and the file ends behind them
   pub file_ok : (x : X) (rest : List ℕ) → read ≡ Ok (x, rest) → None ≡ extra more rest → placed len more (read >>= ended more) ≡ Ok x
   file_ok x rest is ends =
-      let one : placed len more (read >>= ended more) ≡ placed len more (ended_by x (extra more rest)) = ap (λ (r : Result (X × List ℕ) Fault). placed len more (r >>= ended more)) is in
+      let one : placed len more (read >>= ended more) ≡ placed len more (ended_by x (extra more rest)) =
+      ap (λ (r : Result (X × List ℕ) Fault). placed len more (r >>= ended more)) is in
       one ∙ rw (← ends) refl
 
   -- it goes on behind them
-  pub file_extra : (x : X) (rest : List ℕ) (f : Fault) → read ≡ Ok (x, rest) → Some f ≡ extra more rest → placed len more (read >>= ended more) ≡ Err (bad_at len more f.left f.kind)
+  pub file_extra : (x : X) (rest : List ℕ) (f : Fault) → read ≡ Ok (x, rest) → Some f ≡ extra more rest
+      → placed len more (read >>= ended more) ≡ Err (bad_at len more f.left f.kind)
   file_extra x rest f is ends =
-      let one : placed len more (read >>= ended more) ≡ placed len more (ended_by x (extra more rest)) = ap (λ (r : Result (X × List ℕ) Fault). placed len more (r >>= ended more)) is in
+      let one : placed len more (read >>= ended more) ≡ placed len more (ended_by x (extra more rest)) =
+      ap (λ (r : Result (X × List ℕ) Fault). placed len more (r >>= ended more)) is in
       one ∙ rw (← ends) refl
 
   -- a field was bad

@@ -1,5 +1,6 @@
 -- What client files and mint files hold, and the first fault of one.
-use Rattle.std.specs.Prelude.{◌≡◌, ℕ, ◌+◌, ◌-◌, ◌==◌, List, [], ◌∷◌, length, take, Bool, true, false, Option, Some, None, Result, Ok, Err, nat_lt, if◌then◌else◌}
+use Rattle.std.specs.Prelude.{◌≡◌, ℕ, ◌+◌, ◌-◌, ◌==◌, List, [], ◌∷◌, length, take, Bool, true, false, Option, Some, None, Result, Ok, Err, nat_lt}
+use Rattle.std.specs.Prelude.{if◌then◌else◌}
 use Rattle.base_types.specs.declared.faults.InputKind.{InputKind}
 use Rattle.base_types.specs.declared.faults.InputKind.TheVariants.{Cut, TooMany, TooLong, Zero, Extra, Large, Form, Repeated}
 use Rattle.cbdc_types.specs.declared.tx.Output.{Output}

@@ -51,7 +51,8 @@ pub record TookPieces {X : Type 0} (told : Option (List ℕ)) (read : List ℕ �
   pub is : (later : List ℕ) → read (old.unread ++ (pieces ++ later)) ≡ Ok (x, new.unread ++ later)
 
 -- with the rest of the file behind the bytes that were not used, reading meets this bad field
-pub record MeetsBadField {X : Type 0} (told : Option (List ℕ)) (read : List ℕ → Result X Fault) (unread : List ℕ) (bad : BadFile) (bytes : List ℕ) : Type 0 where
+pub record MeetsBadField {X : Type 0} (told : Option (List ℕ)) (read : List ℕ → Result X Fault) (unread : List ℕ) (bad : BadFile) (bytes : List ℕ) :
+    Type 0 where
   pub rest : List ℕ
   pub more : Bool
   pub whole : Tells told (λ c. (bytes ++ rest ≡ front c) × (more ≡ goes_on c))

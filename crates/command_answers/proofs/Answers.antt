@@ -27,7 +27,8 @@ fault_done named read written answers.WriteFault is = absurd is
 fault_done named read written (answers.DiskFault k) is = tt
 fault_done named read written answers.Memory is = tt
 
-pub not_read_fault : {X : Type 0} (place : ℕ) (told : Option (List ℕ)) (read : List ℕ → Result X BadFile) (before now : ℕ) (named rose : ℕ → Type 0) → ((file : ℕ) → file ≡ place → named file) → ((file : ℕ) → file ≡ place → Rose before now → rose file) → (a : Answer)
+pub not_read_fault : {X : Type 0} (place : ℕ) (told : Option (List ℕ)) (read : List ℕ → Result X BadFile) (before now : ℕ) (named rose : ℕ → Type 0)
+    → ((file : ℕ) → file ≡ place → named file) → ((file : ℕ) → file ≡ place → Rose before now → rose file) → (a : Answer)
     → IsNotRead place told read before now a → IsReadOrNodeFault named rose a
 not_read_fault place told read before now named rose has of answers.Ok is = absurd is
 not_read_fault place told read before now named rose has of answers.BadWords is = absurd is
@@ -50,18 +51,25 @@ there [] ys y = refl
 there (x ∷ xs) ys y = there xs ys y
 
 -- the first of some files that is not read
-pub first_fault : (held : Text → Option (List ℕ)) (before now : Text → ℕ) (files : List FileWord) (named rose : ℕ → Type 0) → ((place : ℕ) → OnePlace files place → named place) → ((place : ℕ) → OneRose before now files place → rose place)
+pub first_fault : (held : Text → Option (List ℕ)) (before now : Text → ℕ) (files : List FileWord) (named rose : ℕ → Type 0)
+    → ((place : ℕ) → OnePlace files place → named place) → ((place : ℕ) → OneRose before now files place → rose place)
     → (a : Answer) → FirstNotRead held before now files a → IsReadOrNodeFault named rose a
 first_fault held before now files named rose has of a is =
-    let at_place : slice_get files (length is.ahead) ≡ Some is.file = subst (λ fs. slice_get fs (length is.ahead) ≡ Some is.file) (sym is.parts) (there is.ahead is.behind is.file) in
+    let at_place : slice_get files (length is.ahead) ≡ Some is.file =
+    subst (λ fs. slice_get fs (length is.ahead) ≡ Some is.file) (sym is.parts) (there is.ahead is.behind is.file) in
     not_read_fault is.file.place (held is.file.name.now) (txs_of_file (all_txs is.read)) (before is.file.name.now) (now is.file.name.now) named rose
     (λ place at. has place (length is.ahead, is.file, at_place, at))
     (λ place at risen. of place (length is.ahead, is.file, at_place, (at, risen))) a is.is_not
 
 -- a count that rose behind another time rose
-pub one_later : (before mid now : Text → ℕ) (files : List FileWord) (place : ℕ) → ((name : Text) → before name ≤ mid name) → OneRose mid now files place → OneRose before now files place
-one_later before mid now files place later (k, file, at, (is, rose)) =
-    (k, file, at, (is, rose_later (before file.name.now) (mid file.name.now) (now file.name.now) (now file.name.now) (later file.name.now) (omega arith) rose))
+pub one_later : (before mid now : Text → ℕ) (files : List FileWord) (place : ℕ) → ((name : Text) → before name ≤ mid name)
+    → OneRose mid now files place → OneRose before now files place
+one_later before mid now files place later (k, file, at, (is, rose)) = (
+  k,
+  file,
+  at,
+  (is, rose_later (before file.name.now) (mid file.name.now) (now file.name.now) (now file.name.now) (later file.name.now) (omega arith) rose),
+)
 
 pub told : (cause : Answer → Type 0) (a : Answer) → cause a → HasToldCause cause a
 told cause answers.Ok is = tt
@@ -98,7 +106,8 @@ told_by P Q answers.WriteFault f is = tt
 told_by P Q (answers.DiskFault k) f is = f (answers.DiskFault k) is
 told_by P Q answers.Memory f is = tt
 
-pub no_verdicts_later : (place : ℕ) (held : Option (List ℕ)) (before mid now : ℕ) (a : Answer) → before ≤ mid → IsNoVerdicts place held mid now a → IsNoVerdicts place held before now a
+pub no_verdicts_later : (place : ℕ) (held : Option (List ℕ)) (before mid now : ℕ) (a : Answer) → before ≤ mid → IsNoVerdicts place held mid now a
+    → IsNoVerdicts place held before now a
 no_verdicts_later place held before mid now answers.Ok later is = is
 no_verdicts_later place held before mid now answers.BadWords later is = is
 no_verdicts_later place held before mid now (answers.BadInput file at kind) later is = is

@@ -30,7 +30,8 @@ late_fault named read other late not_well = tt
 module _ {D : Type 0} (n : Needs) (p : Promise D) (before after : Scene D) (rack_same inbox_same : Type 0)
     (spared : n.of_no_rack → rack_same) (unread : n.of_no_file → inbox_same) (inbox : (name : Text) → after.file name ≡ before.file name) where
   -- it was not done, and nothing was printed
-  pub kept_not : (a : Answer) → IsReadOrNodeFault n.place (n.rose before.file_faults after.file_faults) a → p.why before after a → (IsBeforeDisks a → rack_same) → rack_same ⊎ p.leaves before after a
+  pub kept_not : (a : Answer) → IsReadOrNodeFault n.place (n.rose before.file_faults after.file_faults) a → p.why before after a
+      → (IsBeforeDisks a → rack_same) → rack_same ⊎ p.leaves before after a
       → after.printed ≡ before.printed → after.print_faults ≡ before.print_faults → HasKept n p before after rack_same inbox_same a
   kept_not a fault why untouched left same count = record {
     cause = fault_done n.place (n.rose before.file_faults after.file_faults) (Rose before.print_faults after.print_faults) a fault;
@@ -46,7 +47,8 @@ module _ {D : Type 0} (n : Needs) (p : Promise D) (before after : Scene D) (rack
   }
 
   -- it was done, and all its lines were printed
-  pub kept_done : p.did before.file before.disks after.disks (IsPrinted before.printed after.printed answers.Ok) → before.print_faults ≤ after.print_faults → HasKept n p before after rack_same inbox_same answers.Ok
+  pub kept_done : p.did before.file before.disks after.disks (IsPrinted before.printed after.printed answers.Ok)
+      → before.print_faults ≤ after.print_faults → HasKept n p before after rack_same inbox_same answers.Ok
   kept_done did later = record {
     cause = tt;
     did = λ _. did;
@@ -61,7 +63,9 @@ module _ {D : Type 0} (n : Needs) (p : Promise D) (before after : Scene D) (rack
   }
 
   -- it was done, and a line could not be printed
-  pub kept_cut : p.did before.file before.disks after.disks (IsPrinted before.printed after.printed answers.WriteFault) → Rose before.print_faults after.print_faults → before.print_faults ≤ after.print_faults → HasKept n p before after rack_same inbox_same answers.WriteFault
+  pub kept_cut : p.did before.file before.disks after.disks (IsPrinted before.printed after.printed answers.WriteFault)
+      → Rose before.print_faults after.print_faults → before.print_faults ≤ after.print_faults
+      → HasKept n p before after rack_same inbox_same answers.WriteFault
   kept_cut did rose later = record {
     cause = rose;
     did = λ _. did;
@@ -76,7 +80,9 @@ module _ {D : Type 0} (n : Needs) (p : Promise D) (before after : Scene D) (rack
   }
 
   -- it was done, whether its lines were printed or not
-  pub kept_well : (a : Answer) → IsWell a → p.did before.file before.disks after.disks (IsPrinted before.printed after.printed a) → (named read : ℕ → Type 0) → IsAnswerToRequest named read (Rose before.print_faults after.print_faults) a → before.print_faults ≤ after.print_faults
+  pub kept_well : (a : Answer) → IsWell a → p.did before.file before.disks after.disks (IsPrinted before.printed after.printed a)
+      → (named read : ℕ → Type 0) → IsAnswerToRequest named read (Rose before.print_faults after.print_faults) a
+      → before.print_faults ≤ after.print_faults
       → HasKept n p before after rack_same inbox_same a
   kept_well answers.Ok well did named read cause later = kept_done did later
   kept_well answers.WriteFault well did named read cause later = kept_cut did cause later
@@ -84,7 +90,8 @@ module _ {D : Type 0} (n : Needs) (p : Promise D) (before after : Scene D) (rack
 
 -- the same where it is said in other words that nothing was taken or read
 pub kept_by : {D : Type 0} (n : Needs) (p : Promise D) (before after : Scene D) (rack_same taken_none inbox_same read_none : Type 0) (a : Answer)
-    → (rack_same → taken_none) → (inbox_same → read_none) → HasKept n p before after rack_same inbox_same a → HasKept n p before after taken_none read_none a
+    → (rack_same → taken_none) → (inbox_same → read_none) → HasKept n p before after rack_same inbox_same a
+    → HasKept n p before after taken_none read_none a
 kept_by n p before after rack_same taken_none inbox_same read_none a rack inbox kept = record {
   cause = kept.cause;
   did = kept.did;

@@ -26,7 +26,8 @@ module _ (old mid new : Option Text) (whole piece rest : Text) (goes : Goes old 
       let (m, longer) = front_of_both piece rest n in (
         length goes.0 + m,
         front ∙ ap (λ (l : Text). Some l) (append_assoc t goes.0 (take n piece))
-            ∙ ap (λ (l : Text). Some (t ++ l)) (ap (λ (l : Text). goes.0 ++ l) longer ∙ front_behind goes.0 (piece ++ rest) m ∙ ap (take (length goes.0 + m)) goes.2),
+            ∙ ap (λ (l : Text). Some (t ++ l)) (ap (λ (l : Text). goes.0 ++ l) longer ∙ front_behind goes.0 (piece ++ rest) m
+            ∙ ap (take (length goes.0 + m)) goes.2),
       )
 
 -- nothing is left
@@ -34,8 +35,10 @@ pub parts_done : (old mid : Option Text) (whole : Text) → Goes old mid whole [
 parts_done old mid whole goes = λ t is. goes.1 t is ∙ ap (λ (l : Text). Some (t ++ l)) (sym (append-nil goes.0) ∙ goes.2)
 
 -- the last part
-pub last_part : {E : Type 0} (old mid new : Option Text) (whole piece : Text) (r : Result (Unit {0}) E) → Goes old mid whole piece → Prints mid new piece r → Prints old new whole r
+pub last_part : {E : Type 0} (old mid new : Option Text) (whole piece : Text) (r : Result (Unit {0}) E) → Goes old mid whole piece
+    → Prints mid new piece r → Prints old new whole r
 last_part old mid new whole piece (Ok done) goes prints =
-    parts_done old new whole (part_more old mid new whole piece [] (goes.0, goes.1, ap (λ (l : Text). goes.0 ++ l) (append-nil piece) ∙ goes.2) prints)
+    parts_done old new whole (part_more old mid new whole piece [] (goes.0, goes.1, ap (λ (l : Text). goes.0 ++ l) (append-nil piece) ∙ goes.2)
+    prints)
 last_part old mid new whole piece (Err e) goes fails =
     part_cut old mid new whole piece [] (goes.0, goes.1, ap (λ (l : Text). goes.0 ++ l) (append-nil piece) ∙ goes.2) fails

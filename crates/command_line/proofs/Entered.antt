@@ -4,11 +4,13 @@ use Rattle.std.specs.Prelude.{find, is_some}
 use Rattle.std.specs.List.{AllByRecursion, fold}
 use Rattle.std.specs.Option.{option_map, option_map_or}
 use Rattle.clap.proofs.WalkLemmas.{walk_stopped}
-use Rattle.clap.specs.Faults.{check_fault, defaults_fault, entered_fault, flag_word_fault, level_fault, long_fault, other_fault, settle_fault, step_fault, stray_fault, turn_fault, walk_fault}
+use Rattle.clap.specs.Faults.{check_fault, defaults_fault, entered_fault, flag_word_fault, level_fault, long_fault, other_fault, settle_fault}
+use Rattle.clap.specs.Faults.{step_fault, stray_fault, turn_fault, walk_fault}
 use Rattle.clap.specs.Kinds.{or_else}
 use Rattle.clap.specs.Lexer.{long_of}
 use Rattle.clap.specs.Simple.{App, Shape, built, entered, label_of, names_of, rows_at}
-use Rattle.clap.specs.Walk.{Held, Names, Row, Rule, Text, Walk, answers_to, arg_by_long, finished, has_long, idle, nothing_held, rows_after, settled, subcommand_met, subcommand_or_other, takes_values, value, walk, walked}
+use Rattle.clap.specs.Walk.{Held, Names, Row, Rule, Text, Walk, answers_to, arg_by_long, finished, has_long, idle, nothing_held, rows_after, settled}
+use Rattle.clap.specs.Walk.{subcommand_met, subcommand_or_other, takes_values, value, walk, walked}
 use Rattle.command_line.specs.Asked.{NameCommand}
 use Rattle.command_line.specs.Command.{hamilton}
 use Rattle.command_line.specs.Places.{is_dashes}
@@ -43,23 +45,28 @@ long_told name v fault =
 
 -- no word but a command is taken: no flag without a fault
 no_other : (w : Text) → is_dashes w ≡ false → other_fault top None w (held [] None) ≡ []
-    → step_fault top 1 (subcommand_or_other top.rules None idle 1 w (held [] None)).0 (subcommand_or_other top.rules None idle 1 w (held [] None)).1 ≡ [] → ⊥
+    → step_fault top 1 (subcommand_or_other top.rules None idle 1 w (held [] None)).0 (subcommand_or_other top.rules None idle 1 w (held [] None)).1
+    ≡ [] → ⊥
 no_other w dashes other step = go (long_of w) refl
   where
     go : (o : Option (Text × Option Text)) → long_of w ≡ o → ⊥
-    go (Some (name, v)) is = let fault : long_fault top.rules false (arg_by_long top.rules name) v (held [] None) ≡ [] = rw (dashes, is) at other in long_told name v fault
+    go (Some (name, v)) is = let fault : long_fault top.rules false (arg_by_long top.rules name) v (held [] None) ≡ [] = rw (dashes, is) at other in
+        long_told name v fault
     go None is =
         let fault : flag_word_fault top.rules false None w (held [] None) ≡ [] = rw (dashes, is) at other in
-        let met : subcommand_or_other top.rules None idle 1 w (held [] None) ≡ (held [] None, value) = rw (dashes, is) (plain_is top top_known refl idle w [] None fault) in
+        let met : subcommand_or_other top.rules None idle 1 w (held [] None) ≡ (held [] None, value) =
+        rw (dashes, is) (plain_is top top_known refl idle w [] None fault) in
         let stray : stray_fault top ≡ [] = subst (λ (r : Held × _). step_fault top 1 r.0 r.1 ≡ []) met step in
         stray_is top stray
 
 -- nothing is taken behind a `--` that comes first
-never_stops : (ws : List Text) → walk_fault top names (walk_at [] None idle 1 true) ws ≡ [] → (fold (walked top.rules names) (walk_at [] None idle 1 true) ws).stopped ≡ None
+never_stops : (ws : List Text) → walk_fault top names (walk_at [] None idle 1 true) ws ≡ []
+    → (fold (walked top.rules names) (walk_at [] None idle 1 true) ws).stopped ≡ None
 unfolding walk_fault
 never_stops [] fault = refl
 never_stops (x ∷ ws) fault =
-    let turn = (or_else-nil (turn_fault top names (walk_at [] None idle 1 true) x) (walk_fault top names (walked top.rules names (walk_at [] None idle 1 true) x) ws) fault).0 in
+    let turn = (or_else-nil (turn_fault top names (walk_at [] None idle 1 true) x)
+    (walk_fault top names (walked top.rules names (walk_at [] None idle 1 true) x) ws) fault).0 in
     let stray : stray_fault top ≡ [] = turn in
     absurd (stray_is top stray)
 
@@ -76,7 +83,8 @@ rest_is (w ∷ ws) p fault stopped = go (subcommand_met names idle w) refl
     go (Some name) is =
         let at_command : walked top.rules names start w ≡ record start { stopped = Some (name, []) } = rw is refl in
         let all : stop (w ∷ ws) ≡ Some (name, ws) =
-        ap (λ (v : Walk). (fold (walked top.rules names) v ws).stopped) at_command ∙ sym (ap (λ (v : Walk). v.stopped) (walk_stopped top.rules names start name [] ws))
+        ap (λ (v : Walk). (fold (walked top.rules names) v ws).stopped) at_command
+        ∙ sym (ap (λ (v : Walk). v.stopped) (walk_stopped top.rules names start name [] ws))
         in
         let same : Some (name, ws) ≡ Some p = sym all ∙ stopped in
         sym (ap (λ (o : Option (Text × List Text)). option_map_or (λ q. q.1) o []) same)
@@ -85,7 +93,8 @@ rest_is (w ∷ ws) p fault stopped = go (subcommand_met names idle w) refl
         dash : (b : Bool) → is_dashes w ≡ b → p.1 ≡ drop 1 (w ∷ ws)
         dash true dashes =
             let past : walked top.rules names start w ≡ walk_at [] None idle 1 true = rw (is, dashes) refl in
-            let sound : walk_fault top names (walk_at [] None idle 1 true) ws ≡ [] = subst (λ (v : Walk). walk_fault top names v ws ≡ []) past parts.1 in
+            let sound : walk_fault top names (walk_at [] None idle 1 true) ws ≡ [] =
+            subst (λ (v : Walk). walk_fault top names v ws ≡ []) past parts.1 in
             let none : None ≡ Some p = sym (ap (λ (v : Walk). (fold (walked top.rules names) v ws).stopped) past ∙ never_stops ws sound) ∙ stopped in
             absurd (none≢some p none)
         dash false dashes =
@@ -95,7 +104,8 @@ rest_is (w ∷ ws) p fault stopped = go (subcommand_met names idle w) refl
             in
             let turn : both_of None ≡ [] = subst (λ (o : Option Text). both_of o ≡ []) is parts.0 in
             let each = or_else-nil (other_fault top None w (held [] None))
-            (step_fault top 1 (subcommand_or_other top.rules None idle 1 w (held [] None)).0 (subcommand_or_other top.rules None idle 1 w (held [] None)).1) turn
+            (step_fault top 1 (subcommand_or_other top.rules None idle 1 w (held [] None)).0
+            (subcommand_or_other top.rules None idle 1 w (held [] None)).1) turn
             in
             absurd (no_other w dashes each.0 each.1)
 
@@ -107,7 +117,8 @@ pub record Entered (P : Shape → Type 0) (words : List Text) (command : Text) (
   pub taken : rows ≡ rows_after shape.rules [] (drop 2 words)
   pub sound : level_fault shape [] nothing_held (drop 2 words) false [] ≡ []
 
-pub entered_is : (P : Shape → Type 0) → AllByRecursion P app.subs → (words : List Text) (command : Text) (rows : List Row) → NameCommand words command rows → Entered P words command rows
+pub entered_is : (P : Shape → Type 0) → AllByRecursion P app.subs → (words : List Text) (command : Text) (rows : List Row)
+    → NameCommand words command rows → Entered P words command rows
 entered_is P all words command rows m = at_stop (stop (drop 1 words)) refl
   where
     ws : List Text
@@ -116,7 +127,9 @@ entered_is P all words command rows m = at_stop (stop (drop 1 words)) refl
     parts : (walk_fault top names start ws ≡ []) × (entered_fault app (stop ws) ≡ [])
     parts =
         let end = (walk top.rules names nothing_held ws).held in
-        let last = or_else (settle_fault top.rules top.args_override_self end) (or_else (defaults_fault (settled top.rules end).rows top.rules) (check_fault top (finished top.rules end) (is_some (entered app (stop ws))))) in
+        let last = or_else (settle_fault top.rules top.args_override_self end)
+        (or_else (defaults_fault (settled top.rules end).rows top.rules)
+        (check_fault top (finished top.rules end) (is_some (entered app (stop ws))))) in
         let outer = or_else-nil (walk_fault top names start ws) (or_else (entered_fault app (stop ws)) last) m.sound in
         (outer.0, (or_else-nil (entered_fault app (stop ws)) last outer.1).0)
 

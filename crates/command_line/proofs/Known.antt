@@ -24,13 +24,94 @@ abbrev pub AreKnown : Shape → Type 0
 AreKnown s = AllByRecursion (IsKnown s.rules) s.rules
 
 pub top_known : AreKnown (built hamilton).top
-top_known = (is_flag _ _ refl (record { takes = refl; told = λ rows e. absurd (cc) }), (is_flag _ _ refl (record { takes = refl; told = λ rows e. absurd (cc) }), tt))
+top_known = (
+  is_flag _ _ refl (record { takes = refl; told = λ rows e. absurd (cc) }),
+  (is_flag _ _ refl (record { takes = refl; told = λ rows e. absurd (cc) }), tt),
+)
 
 pub init_known : AreKnown (leaf init_shape)
-init_known = (is_option _ _ (record { named = refl; takes = refl; most = refl; wants = λ rows e. absurd (cc); found = refl; taken = record { action = inl refl; missing = refl }; short = λ x. refl }), (is_option _ _ (record { named = refl; takes = refl; most = refl; wants = λ rows e. absurd (cc); found = refl; taken = record { action = inl refl; missing = refl }; short = λ x. refl }), (is_option _ _ (record { named = refl; takes = refl; most = refl; wants = λ rows e. absurd (cc); found = refl; taken = record { action = inl refl; missing = refl }; short = λ x. refl }), (is_option _ _ (record { named = refl; takes = refl; most = refl; wants = λ rows e. absurd (cc); found = refl; taken = record { action = inl refl; missing = refl }; short = λ x. refl }), (is_place _ _ refl (record { found = refl; taken = record { action = inl refl; missing = refl }; last = refl }), (is_flag _ _ refl (record { takes = refl; told = λ rows e. absurd (cc) }), tt))))))
+init_known = (
+  is_option _ _ (record {
+    named = refl;
+    takes = refl;
+    most = refl;
+    wants = λ rows e. absurd (cc);
+    found = refl;
+    taken = record { action = inl refl; missing = refl };
+    short = λ x. refl;
+  }),
+  (
+    is_option _ _ (record {
+      named = refl;
+      takes = refl;
+      most = refl;
+      wants = λ rows e. absurd (cc);
+      found = refl;
+      taken = record { action = inl refl; missing = refl };
+      short = λ x. refl;
+    }),
+    (
+      is_option _ _ (record {
+        named = refl;
+        takes = refl;
+        most = refl;
+        wants = λ rows e. absurd (cc);
+        found = refl;
+        taken = record { action = inl refl; missing = refl };
+        short = λ x. refl;
+      }),
+      (
+        is_option _ _ (record {
+          named = refl;
+          takes = refl;
+          most = refl;
+          wants = λ rows e. absurd (cc);
+          found = refl;
+          taken = record { action = inl refl; missing = refl };
+          short = λ x. refl;
+        }),
+        (
+          is_place _ _ refl (record { found = refl; taken = record { action = inl refl; missing = refl }; last = refl }),
+          (is_flag _ _ refl (record { takes = refl; told = λ rows e. absurd (cc) }), tt),
+        ),
+      ),
+    ),
+  ),
+)
 
 pub run_known : AreKnown (leaf run_shape)
-run_known = (is_option _ _ (record { named = refl; takes = refl; most = refl; wants = λ rows e. absurd (cc); found = refl; taken = record { action = inl refl; missing = refl }; short = λ x. refl }), (is_option _ _ (record { named = refl; takes = refl; most = refl; wants = λ rows e. absurd (cc); found = refl; taken = record { action = inl refl; missing = refl }; short = λ x. refl }), (is_place _ _ refl (record { found = refl; taken = record { action = inr refl; missing = refl }; last = refl }), (is_flag _ _ refl (record { takes = refl; told = λ rows e. absurd (cc) }), tt))))
+run_known = (
+  is_option _ _ (record {
+    named = refl;
+    takes = refl;
+    most = refl;
+    wants = λ rows e. absurd (cc);
+    found = refl;
+    taken = record { action = inl refl; missing = refl };
+    short = λ x. refl;
+  }),
+  (
+    is_option _ _ (record {
+      named = refl;
+      takes = refl;
+      most = refl;
+      wants = λ rows e. absurd (cc);
+      found = refl;
+      taken = record { action = inl refl; missing = refl };
+      short = λ x. refl;
+    }),
+    (
+      is_place _ _ refl (record { found = refl; taken = record { action = inr refl; missing = refl }; last = refl }),
+      (is_flag _ _ refl (record { takes = refl; told = λ rows e. absurd (cc) }), tt),
+    ),
+  ),
+)
 
 pub audit_known : AreKnown (leaf audit_shape)
-audit_known = (is_place _ _ refl (record { found = refl; taken = record { action = inl refl; missing = refl }; last = refl }), (is_place _ _ refl (record { found = refl; taken = record { action = inr refl; missing = refl }; last = refl }), (is_flag _ _ refl (record { takes = refl; told = λ rows e. absurd (cc) }), tt)))
+audit_known = (
+  is_place _ _ refl (record { found = refl; taken = record { action = inl refl; missing = refl }; last = refl }),
+  (
+    is_place _ _ refl (record { found = refl; taken = record { action = inr refl; missing = refl }; last = refl }),
+    (is_flag _ _ refl (record { takes = refl; told = λ rows e. absurd (cc) }), tt),
+  ),
+)

@@ -1,5 +1,6 @@
 -- Words that are refused are not asked for anything.
-use Rattle.std.proofs.Common.{◌≡◌, ◌∙◌, ◌<◌, ℕ, zero, suc, Bool, true, false, if◌then◌else◌, codes, List, [], ◌∷◌, length, map, Option, Some, None, Result, Ok, inl, inr, refl, sym, ap, subst, true≢false, arith}
+use Rattle.std.proofs.Common.{◌≡◌, ◌∙◌, ◌<◌, ℕ, zero, suc, Bool, true, false, if◌then◌else◌, codes, List, [], ◌∷◌, length, map, Option, Some, None}
+use Rattle.std.proofs.Common.{Result, Ok, inl, inr, refl, sym, ap, subst, true≢false, arith}
 use Rattle.std.specs.List.{slice_index_or}
 use Rattle.std.specs.Option.{option_map_or}
 use Rattle.std.specs.Str.{bytes_eq}
@@ -10,7 +11,8 @@ use Rattle.hex.proofs.HexLemmas.{decode_of-ok}
 use Rattle.cbdc_types.specs.Limits.{ShapeOf}
 use Rattle.clap.specs.Words.{Text, Row, Kinds, all_of, fault_of, first_of, subcommand_of}
 use Rattle.clap.specs.Kinds.{or_else}
-use Rattle.command_line.specs.Asked.{HasBadValue, HasMistake, HasNoHashes, HasNoNumber, HasNoUpTo, HasNoSeed, HasNoShape, HasNoWorkload, HasNumber, HasReplicas, HasSeed, HasUpTo, HasShape, HasWish, NameCommand, word_faults, help_words, topic_faults}
+use Rattle.command_line.specs.Asked.{HasBadValue, HasMistake, HasNoHashes, HasNoNumber, HasNoUpTo, HasNoSeed, HasNoShape, HasNoWorkload, HasNumber}
+use Rattle.command_line.specs.Asked.{HasReplicas, HasSeed, HasUpTo, HasShape, HasWish, NameCommand, word_faults, help_words, topic_faults}
 use Rattle.command_line.specs.Command.{hamilton}
 use Rattle.command_line.specs.Values.{IsHashText, IsNumber, IsUpTo, IsWholeNumber}
 use Rattle.requests.specs.declared.Request.TheVariants.{Init, Run, Recover, Status, Audit, Gen, Show}
@@ -29,18 +31,23 @@ topic_pure (Some found) =
     either (bytes_eq found.0 (codes "help")) (fault_of hamilton asked) [] (program_pure asked) none
 
 faults_pure : (words : List Text) → IsPure (word_faults words)
-faults_pure words = after (fault_of hamilton words) (topic_faults (subcommand_of hamilton words)) (program_pure words) (topic_pure (subcommand_of hamilton words))
+faults_pure words = after (fault_of hamilton words) (topic_faults (subcommand_of hamilton words)) (program_pure words)
+    (topic_pure (subcommand_of hamilton words))
 
 -- a command other than `help` is met without a fault
-no_fault : (words : List Text) (command : Text) (rows : List Row) → NameCommand words command rows → bytes_eq command (codes "help") ≡ false → word_faults words ≡ []
+no_fault : (words : List Text) (command : Text) (rows : List Row) → NameCommand words command rows → bytes_eq command (codes "help") ≡ false
+    → word_faults words ≡ []
 no_fault words command rows m other =
-    ap (λ (k : Kinds). or_else k (topic_faults (subcommand_of hamilton words))) m.sound ∙ ap (λ (found : Option (Text × List Row)). topic_faults found) m.met
+    ap (λ (k : Kinds). or_else k (topic_faults (subcommand_of hamilton words))) m.sound
+    ∙ ap (λ (found : Option (Text × List Row)). topic_faults found) m.met
     ∙ ap (λ (c : Bool). if c then fault_of hamilton (help_words (first_of (codes "command") rows)) else []) other
 
-no_mistake : (words : List Text) (command : Text) (rows : List Row) → NameCommand words command rows → bytes_eq command (codes "help") ≡ false → HasMistake (word_faults words) → ⊥
+no_mistake : (words : List Text) (command : Text) (rows : List Row) → NameCommand words command rows → bytes_eq command (codes "help") ≡ false
+    → HasMistake (word_faults words) → ⊥
 no_mistake words command rows m other mistake = absurd (subst (λ (k : Kinds). HasMistake k) (no_fault words command rows m other) mistake).1
 
-pub no_wish : (words : List Text) (command : Text) (rows : List Row) → NameCommand words command rows → bytes_eq command (codes "help") ≡ false → HasWish (word_faults words) → ⊥
+pub no_wish : (words : List Text) (command : Text) (rows : List Row) → NameCommand words command rows → bytes_eq command (codes "help") ≡ false
+    → HasWish (word_faults words) → ⊥
 no_wish words command rows m other wish = absurd (subst (λ (k : Kinds). HasWish k) (no_fault words command rows m other) wish).1
 
 -- ---- the command and its matches
@@ -49,21 +56,28 @@ abbrev met_as : Text → List Row → Option (Text × List Row)
 met_as c rows = Some (c, rows)
 
 -- words meet one command
-pub one_met : (words : List Text) (c d : Text) (rows others : List Row) → NameCommand words c rows → NameCommand words d others → met_as c rows ≡ met_as d others
+pub one_met : (words : List Text) (c d : Text) (rows others : List Row) → NameCommand words c rows → NameCommand words d others
+    → met_as c rows ≡ met_as d others
 one_met words c d rows others m n = sym m.met ∙ n.met
 
 pub same_rows : (c d : Text) (rows others : List Row) → met_as c rows ≡ met_as d others → rows ≡ others
 same_rows c d rows others e = ap (λ (o : Option (Text × List Row)). option_map_or (λ p. p.1) o []) e
 
 pub other_command : (c d : Text) (rows others : List Row) → met_as c rows ≡ met_as d others → bytes_eq c c ≡ true → bytes_eq d c ≡ false → ⊥
-other_command c d rows others e itself apart = true≢false (sym itself ∙ ap (λ (o : Option (Text × List Row)). option_map_or (λ p. bytes_eq p.0 c) o false) e ∙ apart)
+other_command c d rows others e itself apart = true≢false
+    (sym itself ∙ ap (λ (o : Option (Text × List Row)). option_map_or (λ p. bytes_eq p.0 c) o false) e ∙ apart)
 
-no_bad_value : (words : List Text) (c : Text) (rows : List Row) → NameCommand words c rows → bytes_eq c c ≡ true → bytes_eq (codes "init") c ≡ false → bytes_eq (codes "status") c ≡ false
+no_bad_value : (words : List Text) (c : Text) (rows : List Row) → NameCommand words c rows → bytes_eq c c ≡ true → bytes_eq (codes "init") c ≡ false
+    → bytes_eq (codes "status") c ≡ false
     → bytes_eq (codes "gen") c ≡ false → bytes_eq (codes "run") c ≡ false → HasBadValue words → ⊥
-no_bad_value words c rows m itself init status gen run (inl b) = other_command c (codes "init") rows b.0 (one_met words c (codes "init") rows b.0 m b.1) itself init
-no_bad_value words c rows m itself init status gen run (inr (inl b)) = other_command c (codes "status") rows b.0 (one_met words c (codes "status") rows b.0 m b.2) itself status
-no_bad_value words c rows m itself init status gen run (inr (inr (inl b))) = other_command c (codes "gen") rows b.0 (one_met words c (codes "gen") rows b.0 m b.1) itself gen
-no_bad_value words c rows m itself init status gen run (inr (inr (inr b))) = other_command c (codes "run") rows b.0 (one_met words c (codes "run") rows b.0 m b.1) itself run
+no_bad_value words c rows m itself init status gen run (inl b) =
+    other_command c (codes "init") rows b.0 (one_met words c (codes "init") rows b.0 m b.1) itself init
+no_bad_value words c rows m itself init status gen run (inr (inl b)) =
+    other_command c (codes "status") rows b.0 (one_met words c (codes "status") rows b.0 m b.2) itself status
+no_bad_value words c rows m itself init status gen run (inr (inr (inl b))) =
+    other_command c (codes "gen") rows b.0 (one_met words c (codes "gen") rows b.0 m b.1) itself gen
+no_bad_value words c rows m itself init status gen run (inr (inr (inr b))) =
+    other_command c (codes "run") rows b.0 (one_met words c (codes "run") rows b.0 m b.1) itself run
 
 -- ---- values
 
@@ -88,12 +102,15 @@ no_seed rows n has none = none.2 n (subst (λ (t : Text). IsWholeNumber t n) (on
 no_up_to : (rows : List Row) (name : Text) (most n : ℕ) → HasUpTo rows name most n → HasNoUpTo rows name most → ⊥
 no_up_to rows name most n has none = none.2 n (subst (λ (t : Text). IsUpTo most t n) (one_text has.0 none.0 (sym has.1 ∙ none.1)) has.2)
 
-no_workload : (rows : List Row) (shape : ShapeOf) (seed count replicas : ℕ) → HasShape rows shape → HasSeed rows seed → HasNumber rows (codes "count") 10000 count → HasReplicas rows replicas
+no_workload : (rows : List Row) (shape : ShapeOf) (seed count replicas : ℕ) → HasShape rows shape → HasSeed rows seed
+    → HasNumber rows (codes "count") 10000 count → HasReplicas rows replicas
     → HasNoWorkload rows → ⊥
 no_workload rows shape seed count replicas sized seeded counted copied (inl none) = no_shape rows shape sized none
 no_workload rows shape seed count replicas sized seeded counted copied (inr (inl none)) = no_seed rows seed seeded none
-no_workload rows shape seed count replicas sized seeded counted copied (inr (inr (inl none))) = no_number rows (codes "count") 10000 count counted none
-no_workload rows shape seed count replicas sized seeded counted copied (inr (inr (inr none))) = no_up_to rows (codes "replicas") 3 replicas copied none
+no_workload rows shape seed count replicas sized seeded counted copied (inr (inr (inl none))) =
+    no_number rows (codes "count") 10000 count counted none
+no_workload rows shape seed count replicas sized seeded counted copied (inr (inr (inr none))) =
+    no_up_to rows (codes "replicas") 3 replicas copied none
 
 hash_text : (t : Text) (h : List ℕ) → decode_of t ≡ Ok h → length h ≡ 32 → IsHashText t
 hash_text t h e size =
@@ -118,7 +135,8 @@ each_hash (t ∷ ts) (h ∷ hs) e whole text (suc k) lt is =
     let here = heads (decode_of t) (Ok h) (map decode_of ts) (map (λ h. Ok h) hs) e in
     each_hash ts hs here.1 (All-tail (λ (h : List ℕ). length h ≡ 32) h hs whole) text k (omega (arith, lt)) is
 
-no_hashes : (given : List Text) (hashes : List (List ℕ)) → map decode_of given ≡ map (λ h. Ok h) hashes → AreWholeHashes hashes → HasNoHashes given → ⊥
+no_hashes : (given : List Text) (hashes : List (List ℕ)) → map decode_of given ≡ map (λ h. Ok h) hashes → AreWholeHashes hashes → HasNoHashes given
+    → ⊥
 no_hashes given hashes e whole none = none.2 (each_hash given hashes e whole none.0 none.1.0 none.1.1 none.1.2)
 
 -- ---- the law

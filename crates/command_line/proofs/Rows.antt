@@ -21,7 +21,8 @@ wish_of kinds e (inr among) is = (kind_of e, among, is)
 
 -- an error that is a mistake comes only where the faults have one
 pub mistake_of : (kinds : Kinds) (e : Error) → HasKind kinds e → IsTrue (is_mistake (kind_of e)) → HasMistake kinds
-mistake_of kinds e (inl memory) is = let none : IsTrue (is_mistake OutOfMemory) = subst (λ k. IsTrue (is_mistake k)) memory is in absurd (search (rules, none))
+mistake_of kinds e (inl memory) is = let none : IsTrue (is_mistake OutOfMemory) = subst (λ k. IsTrue (is_mistake k)) memory is in
+    absurd (search (rules, none))
 mistake_of kinds e (inr among) is = (kind_of e, among, is)
 
 -- what the first of two steps has
@@ -34,7 +35,8 @@ first_mistake [] b (k, among, is) = absurd among
 first_mistake (x ∷ xs) b has = has
 
 -- an answer that is a text was asked for by a wish
-pub asked_by_wish : (words : List Text) (r : Result Request WordsFault) → IfOk r IsShow → (IsOk r → HasWish (word_faults words)) → IfOk r (λ q. WordsAskFor words q)
+pub asked_by_wish : (words : List Text) (r : Result Request WordsFault) → IfOk r IsShow → (IsOk r → HasWish (word_faults words))
+    → IfOk r (λ q. WordsAskFor words q)
 asked_by_wish words (Ok (Show text)) shows wish = wish (search rules)
 asked_by_wish words (Ok (Init shape mint)) shows wish = absurd shows
 asked_by_wish words (Ok (Run verdicts clients options)) shows wish = absurd shows
@@ -45,7 +47,8 @@ asked_by_wish words (Ok (Gen shape seed count options)) shows wish = absurd show
 asked_by_wish words (Err e) shows wish = tt
 
 -- bad words are refused by a mistake
-pub refused_by_mistake : (words : List Text) (r : Result Request WordsFault) → (r ≡ Err Bad → HasMistake (word_faults words)) → IfErr r (λ e. AreWordsRefused words e)
+pub refused_by_mistake : (words : List Text) (r : Result Request WordsFault) → (r ≡ Err Bad → HasMistake (word_faults words))
+    → IfErr r (λ e. AreWordsRefused words e)
 refused_by_mistake words (Ok q) mistake = tt
 refused_by_mistake words (Err Bad) mistake = inl (mistake refl)
 refused_by_mistake words (Err Memory) mistake = tt

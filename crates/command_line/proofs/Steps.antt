@@ -1,19 +1,25 @@
 -- One word of a command after another, as clap takes it where it finds no fault.
-use Rattle.std.proofs.Common.{◌≡◌, ◌∙◌, ◌⊎◌, ◌++◌, ◌&&◌, ◌||◌, ℕ, zero, suc, Bool, true, false, not, cond, List, [], ◌∷◌, length, Option, Some, None, append-nil, append_assoc, inl, inr, refl, sym, ap, subst, true≢false}
+use Rattle.std.proofs.Common.{◌≡◌, ◌∙◌, ◌⊎◌, ◌++◌, ◌&&◌, ◌||◌, ℕ, zero, suc, Bool, true, false, not, cond, List, [], ◌∷◌, length, Option, Some, None}
+use Rattle.std.proofs.Common.{append-nil, append_assoc, inl, inr, refl, sym, ap, subst, true≢false}
 use Rattle.std.specs.Prelude.{drop, encode_utf8, find, is_some, slice_get}
 use Rattle.std.specs.List.{AllByRecursion, fold}
 use Rattle.std.specs.Option.{option_map, option_map_or}
 use Rattle.std.specs.Str.{bytes_eq, chars}
 use Rattle.clap.proofs.SimpleLemmas.{is_false}
 use Rattle.clap.proofs.WalkLemmas.{both}
-use Rattle.clap.specs.Faults.{bundle_step_fault, flag_word_fault, flags_fault, long_fault, option_fault, other_fault, positional_fault, react_fault, settle_fault, step_fault, stray_fault, turn_fault, use_fault, walk_fault}
+use Rattle.clap.specs.Faults.{bundle_step_fault, flag_word_fault, flags_fault, long_fault, option_fault, other_fault, positional_fault, react_fault}
+use Rattle.clap.specs.Faults.{settle_fault, step_fault, stray_fault, turn_fault, use_fault, walk_fault}
 use Rattle.clap.specs.Kinds.{or_else}
 use Rattle.clap.specs.Lexer.{long_of, short_of}
 use Rattle.clap.specs.Simple.{Shape}
-use Rattle.clap.specs.Walk.{Held, Outcome, Row, Rule, Text, Waiting, Walk, after_flag, after_step, arg_by_id, arg_by_index, arg_by_long, arg_by_short, bundle_met, bundle_step, has_long, has_short, idle, is_multiple, is_pending, long_word, most_values, next_position, option, plain, plain_word, positional, positional_held, reacted, settled_rows, subcommand_met, subcommand_or_other, short_or_plain, takes_several, takes_values, to_positional, used, value, walked}
+use Rattle.clap.specs.Walk.{Held, Outcome, Row, Rule, Text, Waiting, Walk, after_flag, after_step, arg_by_id, arg_by_index, arg_by_long, arg_by_short}
+use Rattle.clap.specs.Walk.{bundle_met, bundle_step, has_long, has_short, idle, is_multiple, is_pending, long_word, most_values, next_position}
+use Rattle.clap.specs.Walk.{option, plain, plain_word, positional, positional_held, reacted, settled_rows, subcommand_met, subcommand_or_other}
+use Rattle.clap.specs.Walk.{short_or_plain, takes_several, takes_values, to_positional, used, value, walked}
 use Rattle.clap.specs.declared.error.kind.ErrorKind.TheVariants.{InvalidSubcommand, TooManyValues, UnknownArgument}
 use Rattle.command_line.specs.Places.{is_dashes}
-use Rattle.command_line.proofs.WordValues.{IsPending, IsTaken, Pending, itself, or_else-nil, pending_values, same_text, settled-values, settles, taken, values, used-values}
+use Rattle.command_line.proofs.WordValues.{IsPending, IsTaken, Pending, itself, or_else-nil, pending_values, same_text, settled-values, settles}
+use Rattle.command_line.proofs.WordValues.{taken, values, used-values}
 
 -- ---- rules
 
@@ -41,7 +47,8 @@ pub record IsPlace (c : List Rule) (a : Rule) : Type 0 where
 abbrev pub IsKnown : List Rule → Rule → Type 0
 IsKnown c a = (is_some a.index ≡ false → IsFlag a ⊎ IsOption c a) × (is_some a.index ≡ true → IsPlace c a)
 
-pub find_is : {X : Type 0} (P : X → Type 0) (test : X → Bool) (xs : List X) (x : X) → AllByRecursion P xs → find test xs ≡ Some x → P x × (test x ≡ true)
+pub find_is : {X : Type 0} (P : X → Type 0) (test : X → Bool) (xs : List X) (x : X) → AllByRecursion P xs → find test xs ≡ Some x
+    → P x × (test x ≡ true)
 find_is P test [] x all e = absurd (cc)
 find_is P test (y ∷ ys) x all e = step (test y) refl (λ rest. find_is P test ys x all.1 rest)
   where
@@ -65,7 +72,8 @@ abbrev pub held : List Row → Pending → Held
 held rows p = record { rows = rows; pending = p; skip = 0 }
 
 abbrev pub walk_at : List Row → Pending → Waiting → ℕ → Bool → Walk
-walk_at rows p waiting position trailing = record { held = held rows p; waiting = waiting; position = position; is_trailing = trailing; stopped = None }
+walk_at rows p waiting position trailing = record
+    { held = held rows p; waiting = waiting; position = position; is_trailing = trailing; stopped = None }
 
 -- what waits for a next word: no option, or one whose value is to come
 pub data Waits (c : List Rule) : Option Rule → Waiting → Pending → Type 0 where
@@ -121,7 +129,8 @@ abbrev pub all_taken : Text → List Row → Pending → List Text
 all_taken id rows p = values id rows ++ pending_values id p
 
 -- a word that was taken without a fault
-pub record OneStep (id : Text) (c : List Rule) (rows : List Row) (p : Pending) (t : Bool) (g : Option Rule) (waiting : Waiting) (k : ℕ) (word : Text) : Type 0 where
+pub record OneStep (id : Text) (c : List Rule) (rows : List Row) (p : Pending) (t : Bool) (g : Option Rule) (waiting : Waiting) (k : ℕ) (word : Text)
+    : Type 0 where
   pub trailing : Bool
   pub given : Option Rule
   pub waits : Waiting
@@ -137,10 +146,12 @@ pub record OneStep (id : Text) (c : List Rule) (rows : List Row) (p : Pending) (
 
 -- ---- values that join
 
-joins : (id : Text) (rows : List Row) (q : Text × List Text) (word b : Text) → q.0 ≡ b → all_taken id rows (Some (q.0, q.1 ++ word ∷ [])) ≡ all_taken id rows (Some q) ++ cond (bytes_eq b id) (word ∷ []) []
+joins : (id : Text) (rows : List Row) (q : Text × List Text) (word b : Text) → q.0 ≡ b
+    → all_taken id rows (Some (q.0, q.1 ++ word ∷ [])) ≡ all_taken id rows (Some q) ++ cond (bytes_eq b id) (word ∷ []) []
 joins id rows q word b same = go (bytes_eq q.0 id) refl
   where
-    go : (v : Bool) → bytes_eq q.0 id ≡ v → values id rows ++ cond (bytes_eq q.0 id) (q.1 ++ word ∷ []) [] ≡ (values id rows ++ cond (bytes_eq q.0 id) q.1 []) ++ cond (bytes_eq b id) (word ∷ []) []
+    go : (v : Bool) → bytes_eq q.0 id ≡ v → values id rows ++ cond (bytes_eq q.0 id) (q.1 ++ word ∷ []) []
+        ≡ (values id rows ++ cond (bytes_eq q.0 id) q.1 []) ++ cond (bytes_eq b id) (word ∷ []) []
     go true e =
         let here : bytes_eq b id ≡ true = ap (λ t. bytes_eq t id) (sym same) ∙ e in
         rw (e, here) (sym (append_assoc (values id rows) q.1 (word ∷ [])))
@@ -153,7 +164,8 @@ nothing_yet true = refl
 nothing_yet false = refl
 
 walks : (h g : Held) (w v : Waiting) (j k : ℕ) (t u : Bool) → h ≡ g → w ≡ v → j ≡ k → t ≡ u
-    → ◌≡◌ {A = Walk} (record { held = h; waiting = w; position = j; is_trailing = t; stopped = None }) (record { held = g; waiting = v; position = k; is_trailing = u; stopped = None })
+    → ◌≡◌ {A = Walk} (record { held = h; waiting = w; position = j; is_trailing = t; stopped = None })
+    (record { held = g; waiting = v; position = k; is_trailing = u; stopped = None })
 walks h g w v j k t u a b d e = λ i. record { held = a i; waiting = b i; position = d i; is_trailing = e i; stopped = None }
 
 or_false : (a b : Bool) → b ≡ false → (a || b) ≡ a
@@ -185,7 +197,8 @@ module _ (s : Shape) (known : AllByRecursion (IsKnown s.rules) s.rules) (once : 
       → (b : Rule) × (arg_by_index c k ≡ Some b) × IsPlace c b × (is_some b.index ≡ true) × (positional_fault c false b (held rows p) ≡ [])
   place_of k rows p e = go (arg_by_index c k) refl
     where
-      go : (o : Option Rule) → arg_by_index c k ≡ o → (b : Rule) × (arg_by_index c k ≡ Some b) × IsPlace c b × (is_some b.index ≡ true) × (positional_fault c false b (held rows p) ≡ [])
+      go : (o : Option Rule) → arg_by_index c k ≡ o
+          → (b : Rule) × (arg_by_index c k ≡ Some b) × IsPlace c b × (is_some b.index ≡ true) × (positional_fault c false b (held rows p) ≡ [])
       go None is = let stray : stray_fault s ≡ [] = rw is at e in absurd (stray_is s stray)
       go (Some b) is =
           let there = by_index k b is in
@@ -201,7 +214,8 @@ module _ (s : Shape) (known : AllByRecursion (IsKnown s.rules) s.rules) (once : 
     pub ready : IsPending c pending
     pub taken : all_taken id rows_now pending ≡ all_taken id rows p ++ cond (bytes_eq b.id id) (word ∷ []) []
 
-  placed_in : (id : Text) (rows : List Row) (p : Pending) (b : Rule) (word : Text) → IsPlace c b → IsPending c p → positional_fault c false b (held rows p) ≡ [] → Placed id rows p b word
+  placed_in : (id : Text) (rows : List Row) (p : Pending) (b : Rule) (word : Text) → IsPlace c b → IsPending c p
+      → positional_fault c false b (held rows p) ≡ [] → Placed id rows p b word
   placed_in id rows None b word place ready fault = record {
     rows_now = rows;
     pending = Some (b.id, word ∷ []);
@@ -239,7 +253,8 @@ module _ (s : Shape) (known : AllByRecursion (IsKnown s.rules) s.rules) (once : 
   pending_of w p (idles q ready) = ready
   pending_of w p (goes_on q ready) = ready
 
-  place_step : (id : Text) (t : Bool) (w : Waiting) (k : ℕ) (rows : List Row) (p : Pending) (word : Text) → Waits c None w p → step_fault s k (held rows p) value ≡ []
+  place_step : (id : Text) (t : Bool) (w : Waiting) (k : ℕ) (rows : List Row) (p : Pending) (word : Text) → Waits c None w p
+      → step_fault s k (held rows p) value ≡ []
       → walked c [] (walk_at rows p w k t) word ≡ to_positional c (arg_by_index c k) word (walk_at rows p w k t) (held rows p)
       → ((ws : List Text) → got id c t None k (word ∷ ws) ≡ placed id (arg_by_index c k) word ++ got id c t None (after (arg_by_index c k) k) ws)
       → ((ws : List Text) → Follows t false ws → Follows t false (word ∷ ws)) → OneStep id c rows p t None w k word
@@ -255,7 +270,8 @@ module _ (s : Shape) (known : AllByRecursion (IsKnown s.rules) s.rules) (once : 
         pending = in_place.pending;
         place = next_position b k;
         is = met ∙ ap (λ (o : Option Rule). to_positional c o word (walk_at rows p w k t) (held rows p)) there.1
-            ∙ walks (positional_held c b word (held rows p)) (held in_place.rows_now in_place.pending) (cond (is_multiple b) positional idle) (cond (is_multiple b) positional idle)
+            ∙ walks (positional_held c b word (held rows p)) (held in_place.rows_now in_place.pending) (cond (is_multiple b) positional idle)
+            (cond (is_multiple b) positional idle)
             (next_position b k) (next_position b k) (t || b.trailing_var_arg) t in_place.is refl refl (or_false t b.trailing_var_arg there.2.last);
         state = waits_on (is_multiple b) in_place.pending in_place.ready;
         adds = cond (bytes_eq b.id id) (word ∷ []) [];
@@ -264,7 +280,8 @@ module _ (s : Shape) (known : AllByRecursion (IsKnown s.rules) s.rules) (once : 
         follows = follow;
       }
 
-  pub trailing_step : (id : Text) (w : Waiting) (k : ℕ) (rows : List Row) (p : Pending) (word : Text) → Waits c None w p → turn_fault s [] (walk_at rows p w k true) word ≡ []
+  pub trailing_step : (id : Text) (w : Waiting) (k : ℕ) (rows : List Row) (p : Pending) (word : Text) → Waits c None w p
+      → turn_fault s [] (walk_at rows p w k true) word ≡ []
       → OneStep id c rows p true None w k word
   unfolding walked
   trailing_step id w k rows p word state fault = place_step id true w k rows p word state fault refl (λ ws. refl) (λ ws follow. tt)
@@ -276,7 +293,8 @@ module _ (s : Shape) (known : AllByRecursion (IsKnown s.rules) s.rules) (once : 
   pub never_placed : (k : ℕ) (rows : List Row) (a : Rule) → IsOption c a → step_fault s k (held rows (Some (a.id, []))) value ≡ [] → ⊥
   never_placed k rows a is fault = go (is_pending b (Some (a.id, [])) && takes_several b) refl
     where
-      there : (b : Rule) × (arg_by_index c k ≡ Some b) × IsPlace c b × (is_some b.index ≡ true) × (positional_fault c false b (held rows (Some (a.id, []))) ≡ [])
+      there : (b : Rule) × (arg_by_index c k ≡ Some b) × IsPlace c b × (is_some b.index ≡ true)
+          × (positional_fault c false b (held rows (Some (a.id, []))) ≡ [])
       there = place_of k rows (Some (a.id, [])) fault
 
       b : Rule
@@ -293,7 +311,8 @@ module _ (s : Shape) (known : AllByRecursion (IsKnown s.rules) s.rules) (once : 
   -- ---- an option
 
   reacts_told : (a : Rule) (rows : List Row) (p : Pending) → IsFlag a → react_fault c false a [] (held rows p) ≡ [] → ⊥
-  reacts_told a rows p is fault = is.told (settled_rows c p rows) (or_else-nil (settle_fault c false (held rows p)) (use_fault false a [] (settled_rows c p rows)) fault).1
+  reacts_told a rows p is fault = is.told (settled_rows c p rows)
+      (or_else-nil (settle_fault c false (held rows p)) (use_fault false a [] (settled_rows c p rows)) fault).1
 
   flag_told : (a : Rule) (v : Option Text) (rows : List Row) (p : Pending) → IsFlag a → long_fault c false (Some a) v (held rows p) ≡ [] → ⊥
   flag_told a (Some v) rows p is fault = let told : TooManyValues ∷ [] ≡ [] = rw is.takes at fault in absurd (cc)
@@ -308,7 +327,8 @@ module _ (s : Shape) (known : AllByRecursion (IsKnown s.rules) s.rules) (once : 
     pub sound : option_fault c false a v (held rows p) ≡ []
 
   -- an option is known, and so is what it asks for
-  pub long_is : (name : Text) (v : Option Text) (rows : List Row) (p : Pending) → long_fault c false (arg_by_long c name) v (held rows p) ≡ [] → Long name v rows p
+  pub long_is : (name : Text) (v : Option Text) (rows : List Row) (p : Pending) → long_fault c false (arg_by_long c name) v (held rows p) ≡ []
+      → Long name v rows p
   long_is name v rows p fault = go (arg_by_long c name) refl
     where
       go : (o : Option Rule) → arg_by_long c name ≡ o → Long name v rows p
@@ -322,10 +342,12 @@ module _ (s : Shape) (known : AllByRecursion (IsKnown s.rules) s.rules) (once : 
                 record { a = a; named = is; is = opt; sound = sound }
           ]
 
-  pub option_step : (id : Text) (w : Waiting) (k : ℕ) (rows : List Row) (p : Pending) (word name : Text) (v : Option Text) → Waits c None w p → is_dashes word ≡ false → long_of word ≡ Some (name, v)
+  pub option_step : (id : Text) (w : Waiting) (k : ℕ) (rows : List Row) (p : Pending) (word name : Text) (v : Option Text) → Waits c None w p
+      → is_dashes word ≡ false → long_of word ≡ Some (name, v)
       → long_fault c false (arg_by_long c name) v (held rows p) ≡ []
       → walked c [] (walk_at rows p w k false) word
-      ≡ after_step c word (walk_at rows p w k false) (long_word c w word name v (held rows p)).0 (long_word c w word name v (held rows p)).1 → OneStep id c rows p false None w k word
+      ≡ after_step c word (walk_at rows p w k false) (long_word c w word name v (held rows p)).0 (long_word c w word name v (held rows p)).1
+      → OneStep id c rows p false None w k word
   option_step id w k rows p word name (Some v) state dashes is_long fault met =
       let l = long_is name (Some v) rows p fault in
       let parts = or_else-nil (settle_fault c false (held rows p)) (use_fault false l.a (v ∷ []) (settled_rows c p rows)) l.sound in
@@ -339,7 +361,8 @@ module _ (s : Shape) (known : AllByRecursion (IsKnown s.rules) s.rules) (once : 
         is = met ∙ rw (l.named, l.is.takes) refl;
         state = idles None tt;
         adds = cond (bytes_eq l.a.id id) (v ∷ []) [];
-        taken = append-nil (values id (used l.a (v ∷ []) (settled_rows c p rows))) ∙ used-values id l.a (v ∷ []) (settled_rows c p rows) l.is.taken parts.1
+        taken = append-nil (values id (used l.a (v ∷ []) (settled_rows c p rows)))
+            ∙ used-values id l.a (v ∷ []) (settled_rows c p rows) l.is.taken parts.1
             ∙ ap (λ vs. vs ++ cond (bytes_eq l.a.id id) (v ∷ []) []) (settled-values c id rows p (pending_of w p state) parts.0);
         got_on = λ ws. rw (dashes, is_long, l.named) refl;
         follows = λ ws follow. rw (dashes, is_long) follow;
@@ -365,12 +388,14 @@ module _ (s : Shape) (known : AllByRecursion (IsKnown s.rules) s.rules) (once : 
   -- ---- a word that is no option
 
   -- a bundle of short flags is a fault, so the word is none
-  bundle_none : (k : ℕ) (flags : Text) (rows : List Row) (p : Pending) → flags_fault c false k flags 0 (held rows p) ≡ [] → bundle_met c k flags 0 plain (held rows p) ≡ (held rows p, plain)
+  bundle_none : (k : ℕ) (flags : Text) (rows : List Row) (p : Pending) → flags_fault c false k flags 0 (held rows p) ≡ []
+      → bundle_met c k flags 0 plain (held rows p) ≡ (held rows p, plain)
   unfolding bundle_met flags_fault
   bundle_none zero flags rows p fault = refl
   bundle_none (suc k) flags rows p fault = go (slice_get (chars flags) 0) fault
     where
-      go : (o : Option ℕ) → bundle_step_fault c false o flags 0 (held rows p) (flags_fault c false k) ≡ [] → bundle_step c o flags 0 plain (held rows p) (bundle_met c k) ≡ (held rows p, plain)
+      go : (o : Option ℕ) → bundle_step_fault c false o flags 0 (held rows p) (flags_fault c false k) ≡ []
+          → bundle_step c o flags 0 plain (held rows p) (bundle_met c k) ≡ (held rows p, plain)
       go None e = refl
       go (Some x) e = flag (arg_by_short c x) refl
         where
@@ -381,8 +406,10 @@ module _ (s : Shape) (known : AllByRecursion (IsKnown s.rules) s.rules) (once : 
               elim known_as.0 [
                 | inl f ↦
                     let rest = drop (length (encode_utf8 x)) flags in
-                    let told : or_else (react_fault c false a [] (held rows p)) (flags_fault c false k rest 0 (reacted c a [] (held rows p))) ≡ [] = rw (is, f.takes) at e in
-                    absurd (reacts_told a rows p f (or_else-nil (react_fault c false a [] (held rows p)) (flags_fault c false k rest 0 (reacted c a [] (held rows p))) told).0)
+                    let told : or_else (react_fault c false a [] (held rows p)) (flags_fault c false k rest 0 (reacted c a [] (held rows p))) ≡ [] =
+                    rw (is, f.takes) at e in
+                    absurd (reacts_told a rows p f
+                    (or_else-nil (react_fault c false a [] (held rows p)) (flags_fault c false k rest 0 (reacted c a [] (held rows p))) told).0)
                 | inr opt ↦ absurd (true≢false (sym known_as.1 ∙ opt.short x))
               ]
 
@@ -406,24 +433,30 @@ module _ (s : Shape) (known : AllByRecursion (IsKnown s.rules) s.rules) (once : 
 
   walked_is : (w : Waiting) (k : ℕ) (rows : List Row) (p : Pending) (word : Text)
       → walked c [] (walk_at rows p w k false) word
-      ≡ after_step c word (walk_at rows p w k false) (subcommand_or_other c None w k word (held rows p)).0 (subcommand_or_other c None w k word (held rows p)).1
+      ≡ after_step c word (walk_at rows p w k false) (subcommand_or_other c None w k word (held rows p)).0
+      (subcommand_or_other c None w k word (held rows p)).1
   unfolding walked
   walked_is w k rows p word =
-      ap (λ (o : Option Text). after_step c word (walk_at rows p w k false) (subcommand_or_other c o w k word (held rows p)).0 (subcommand_or_other c o w k word (held rows p)).1) (none_met w word)
+      ap (λ (o : Option Text). after_step c word (walk_at rows p w k false) (subcommand_or_other c o w k word (held rows p)).0
+      (subcommand_or_other c o w k word (held rows p)).1) (none_met w word)
 
   record Turn (w : Waiting) (k : ℕ) (rows : List Row) (p : Pending) (word : Text) : Type 0 where
     pub other : other_fault s None word (held rows p) ≡ []
     pub step : step_fault s k (subcommand_or_other c None w k word (held rows p)).0 (subcommand_or_other c None w k word (held rows p)).1 ≡ []
 
-  turn_is : (w : Waiting) (k : ℕ) (rows : List Row) (p : Pending) (word : Text) → turn_fault s [] (walk_at rows p w k false) word ≡ [] → Turn w k rows p word
+  turn_is : (w : Waiting) (k : ℕ) (rows : List Row) (p : Pending) (word : Text) → turn_fault s [] (walk_at rows p w k false) word ≡ []
+      → Turn w k rows p word
   turn_is w k rows p word fault =
       let h = held rows p in
-      let both_of = λ (o : Option Text). or_else (other_fault s o word h) (step_fault s k (subcommand_or_other c o w k word h).0 (subcommand_or_other c o w k word h).1) in
+      let both_of = λ (o : Option Text). or_else (other_fault s o word h)
+      (step_fault s k (subcommand_or_other c o w k word h).0 (subcommand_or_other c o w k word h).1) in
       let here : both_of None ≡ [] = subst (λ (o : Option Text). both_of o ≡ []) (none_met w word) fault in
-      let parts = or_else-nil (other_fault s None word h) (step_fault s k (subcommand_or_other c None w k word h).0 (subcommand_or_other c None w k word h).1) here in
+      let parts = or_else-nil (other_fault s None word h)
+      (step_fault s k (subcommand_or_other c None w k word h).0 (subcommand_or_other c None w k word h).1) here in
       record { other = parts.0; step = parts.1 }
 
-  dashes_step : (id : Text) (w : Waiting) (k : ℕ) (rows : List Row) (p : Pending) (word : Text) → Waits c None w p → is_dashes word ≡ true → OneStep id c rows p false None w k word
+  dashes_step : (id : Text) (w : Waiting) (k : ℕ) (rows : List Row) (p : Pending) (word : Text) → Waits c None w p → is_dashes word ≡ true
+      → OneStep id c rows p false None w k word
   dashes_step id w k rows p word state dashes = record {
     trailing = true;
     given = None;
@@ -439,7 +472,8 @@ module _ (s : Shape) (known : AllByRecursion (IsKnown s.rules) s.rules) (once : 
     follows = λ ws follow. rw dashes tt;
   }
 
-  plain_step : (id : Text) (w : Waiting) (k : ℕ) (rows : List Row) (p : Pending) (word : Text) → Waits c None w p → is_dashes word ≡ false → long_of word ≡ None → Turn w k rows p word
+  plain_step : (id : Text) (w : Waiting) (k : ℕ) (rows : List Row) (p : Pending) (word : Text) → Waits c None w p → is_dashes word ≡ false
+      → long_of word ≡ None → Turn w k rows p word
       → OneStep id c rows p false None w k word
   plain_step id w k rows p word state dashes is_long turn =
       let word_fault : flag_word_fault c false None word (held rows p) ≡ [] = rw (dashes, is_long, once) at turn.other in
@@ -455,7 +489,8 @@ module _ (s : Shape) (known : AllByRecursion (IsKnown s.rules) s.rules) (once : 
       free v (goes_on q ready) = refl
 
   -- a word where no option waits
-  pub free_step : (id : Text) (w : Waiting) (k : ℕ) (rows : List Row) (p : Pending) (word : Text) → Waits c None w p → turn_fault s [] (walk_at rows p w k false) word ≡ []
+  pub free_step : (id : Text) (w : Waiting) (k : ℕ) (rows : List Row) (p : Pending) (word : Text) → Waits c None w p
+      → turn_fault s [] (walk_at rows p w k false) word ≡ []
       → OneStep id c rows p false None w k word
   free_step id w k rows p word state fault = go (is_dashes word) refl (long_of word) refl
     where
@@ -472,7 +507,8 @@ module _ (s : Shape) (known : AllByRecursion (IsKnown s.rules) s.rules) (once : 
   -- ---- a word where an option waits
 
   pub given_step : (id : Text) (k : ℕ) (rows : List Row) (a : Rule) (word : Text) → IsOption c a → is_dashes word ≡ false
-      → turn_fault s [] (walk_at rows (Some (a.id, [])) (option a.id) k false) word ≡ [] → OneStep id c rows (Some (a.id, [])) false (Some a) (option a.id) k word
+      → turn_fault s [] (walk_at rows (Some (a.id, [])) (option a.id) k false) word ≡ []
+      → OneStep id c rows (Some (a.id, [])) false (Some a) (option a.id) k word
   given_step id k rows a word opt dashes fault = go (long_of word) refl
     where
       p : Pending
@@ -491,7 +527,8 @@ module _ (s : Shape) (known : AllByRecursion (IsKnown s.rules) s.rules) (once : 
       go (Some (name, v)) is = absurd (no_option name v (rw (dashes, is, once) at turn.other))
       go None is =
           let word_fault : flag_word_fault c false None word (held rows p) ≡ [] = rw (dashes, is, once) at turn.other in
-          let met : subcommand_or_other c None (option a.id) k word (held rows p) ≡ plain_word c (option a.id) word (held rows p) = rw (dashes, is) (plain_is (option a.id) word rows p word_fault) in
+          let met : subcommand_or_other c None (option a.id) k word (held rows p) ≡ plain_word c (option a.id) word (held rows p) =
+          rw (dashes, is) (plain_is (option a.id) word rows p word_fault) in
           record {
             trailing = false;
             given = None;
@@ -518,28 +555,38 @@ module _ (s : Shape) (known : AllByRecursion (IsKnown s.rules) s.rules) (once : 
     pub follows : Follows t (is_some g) ws
 
   -- an option that waits behind a `--` is a fault
-  never_ends : (rows : List Row) (a : Rule) (k : ℕ) (ws : List Text) → IsOption c a → walk_fault s [] (walk_at rows (Some (a.id, [])) (option a.id) k true) ws ≡ []
+  never_ends : (rows : List Row) (a : Rule) (k : ℕ) (ws : List Text) → IsOption c a
+      → walk_fault s [] (walk_at rows (Some (a.id, [])) (option a.id) k true) ws ≡ []
       → settle_fault c false (fold (walked c []) (walk_at rows (Some (a.id, [])) (option a.id) k true) ws).held ≡ [] → ⊥
   unfolding walk_fault
   never_ends rows a k [] opt fault settles = waits_ever rows a opt settles
   never_ends rows a k (w ∷ ws) opt fault settles =
       never_placed k rows a opt
-      (or_else-nil (turn_fault s [] (walk_at rows (Some (a.id, [])) (option a.id) k true) w) (walk_fault s [] (walked c [] (walk_at rows (Some (a.id, [])) (option a.id) k true) w) ws) fault).0
+      (or_else-nil (turn_fault s [] (walk_at rows (Some (a.id, [])) (option a.id) k true) w)
+      (walk_fault s [] (walked c [] (walk_at rows (Some (a.id, [])) (option a.id) k true) w) ws) fault).0
 
-  one_step : (id : Text) (t : Bool) (g : Option Rule) (w : Waiting) (k : ℕ) (rows : List Row) (p : Pending) (word : Text) (ws : List Text) → Waits c g w p
-      → walk_fault s [] (walk_at rows p w k t) (word ∷ ws) ≡ [] → settle_fault c false (fold (walked c []) (walk_at rows p w k t) (word ∷ ws)).held ≡ [] → OneStep id c rows p t g w k word
+  one_step : (id : Text) (t : Bool) (g : Option Rule) (w : Waiting) (k : ℕ) (rows : List Row) (p : Pending) (word : Text) (ws : List Text)
+      → Waits c g w p
+      → walk_fault s [] (walk_at rows p w k t) (word ∷ ws) ≡ []
+      → settle_fault c false (fold (walked c []) (walk_at rows p w k t) (word ∷ ws)).held ≡ [] → OneStep id c rows p t g w k word
   unfolding walk_fault
   one_step id true g w k rows p word ws (idles q ready) fault settles =
-      trailing_step id idle k rows q word (idles q ready) (or_else-nil (turn_fault s [] (walk_at rows q idle k true) word) (walk_fault s [] (walked c [] (walk_at rows q idle k true) word) ws) fault).0
+      trailing_step id idle k rows q word (idles q ready)
+      (or_else-nil (turn_fault s [] (walk_at rows q idle k true) word) (walk_fault s [] (walked c [] (walk_at rows q idle k true) word) ws)
+      fault).0
   one_step id true g w k rows p word ws (goes_on q ready) fault settles =
       trailing_step id positional k rows q word (goes_on q ready)
-      (or_else-nil (turn_fault s [] (walk_at rows q positional k true) word) (walk_fault s [] (walked c [] (walk_at rows q positional k true) word) ws) fault).0
+      (or_else-nil (turn_fault s [] (walk_at rows q positional k true) word)
+      (walk_fault s [] (walked c [] (walk_at rows q positional k true) word) ws) fault).0
   one_step id true g w k rows p word ws (awaits a opt) fault settles = absurd (never_ends rows a k (word ∷ ws) opt fault settles)
   one_step id false g w k rows p word ws (idles q ready) fault settles =
-      free_step id idle k rows q word (idles q ready) (or_else-nil (turn_fault s [] (walk_at rows q idle k false) word) (walk_fault s [] (walked c [] (walk_at rows q idle k false) word) ws) fault).0
+      free_step id idle k rows q word (idles q ready)
+      (or_else-nil (turn_fault s [] (walk_at rows q idle k false) word) (walk_fault s [] (walked c [] (walk_at rows q idle k false) word) ws)
+      fault).0
   one_step id false g w k rows p word ws (goes_on q ready) fault settles =
       free_step id positional k rows q word (goes_on q ready)
-      (or_else-nil (turn_fault s [] (walk_at rows q positional k false) word) (walk_fault s [] (walked c [] (walk_at rows q positional k false) word) ws) fault).0
+      (or_else-nil (turn_fault s [] (walk_at rows q positional k false) word)
+      (walk_fault s [] (walked c [] (walk_at rows q positional k false) word) ws) fault).0
   one_step id false g w k rows p word ws (awaits a opt) fault settles = go (is_dashes word) refl
     where
       from : Walk
@@ -551,7 +598,8 @@ module _ (s : Shape) (known : AllByRecursion (IsKnown s.rules) s.rules) (once : 
       go : (b : Bool) → is_dashes word ≡ b → OneStep id c rows (Some (a.id, [])) false (Some a) (option a.id) k word
       go false dashes = given_step id k rows a word opt dashes parts.0
       go true dashes =
-          let past : walked c [] from word ≡ walk_at rows (Some (a.id, [])) (option a.id) k true = walked_is (option a.id) k rows (Some (a.id, [])) word ∙ rw dashes refl in
+          let past : walked c [] from word ≡ walk_at rows (Some (a.id, [])) (option a.id) k true =
+          walked_is (option a.id) k rows (Some (a.id, [])) word ∙ rw dashes refl in
           absurd (never_ends rows a k ws opt (subst (λ (v : Walk). walk_fault s [] v ws ≡ []) past parts.1)
           (subst (λ (v : Walk). settle_fault c false (fold (walked c []) v ws).held ≡ []) past settles))
 
@@ -562,30 +610,44 @@ module _ (s : Shape) (known : AllByRecursion (IsKnown s.rules) s.rules) (once : 
 
   ends_now : (id : Text) (t : Bool) (g : Option Rule) (w : Waiting) (k : ℕ) (rows : List Row) (p : Pending) → EndsAt id t g w k rows p []
   ends_now id t g w k rows p (idles q ready) fault settles =
-      record { ready = ready; taken = sym (append-nil (all_taken id rows q)); follows = elim t as (λ b. Follows b false []) [ true ↦ tt | false ↦ tt ] }
+      record {
+        ready = ready;
+        taken = sym (append-nil (all_taken id rows q));
+        follows = elim t as (λ b. Follows b false []) [ true ↦ tt | false ↦ tt ];
+      }
   ends_now id t g w k rows p (goes_on q ready) fault settles =
-      record { ready = ready; taken = sym (append-nil (all_taken id rows q)); follows = elim t as (λ b. Follows b false []) [ true ↦ tt | false ↦ tt ] }
+      record {
+        ready = ready;
+        taken = sym (append-nil (all_taken id rows q));
+        follows = elim t as (λ b. Follows b false []) [ true ↦ tt | false ↦ tt ];
+      }
   ends_now id t g w k rows p (awaits a opt) fault settles = absurd (waits_ever rows a opt settles)
 
-  ends_later : (id : Text) (t : Bool) (g : Option Rule) (w : Waiting) (k : ℕ) (rows : List Row) (p : Pending) (word : Text) (ws : List Text) → OneStep id c rows p t g w k word
-      → ((u : Bool) (o : Option Rule) (v : Waiting) (j : ℕ) (later : List Row) (q : Pending) → EndsAt id u o v j later q ws) → EndsAt id t g w k rows p (word ∷ ws)
+  ends_later : (id : Text) (t : Bool) (g : Option Rule) (w : Waiting) (k : ℕ) (rows : List Row) (p : Pending) (word : Text) (ws : List Text)
+      → OneStep id c rows p t g w k word
+      → ((u : Bool) (o : Option Rule) (v : Waiting) (j : ℕ) (later : List Row) (q : Pending) → EndsAt id u o v j later q ws)
+      → EndsAt id t g w k rows p (word ∷ ws)
   unfolding walk_fault
   ends_later id t g w k rows p word ws step more state fault settles =
       let from = walk_at rows p w k t in
       let to = walk_at step.rows_now step.pending step.waits step.place step.trailing in
       let parts = or_else-nil (turn_fault s [] from word) (walk_fault s [] (walked c [] from word) ws) fault in
-      let end = more step.trailing step.given step.waits step.place step.rows_now step.pending step.state (subst (λ (v : Walk). walk_fault s [] v ws ≡ []) step.is parts.1)
+      let end = more step.trailing step.given step.waits step.place step.rows_now step.pending step.state
+      (subst (λ (v : Walk). walk_fault s [] v ws ≡ []) step.is parts.1)
       (subst (λ (v : Walk). settle_fault c false (fold (walked c []) v ws).held ≡ []) step.is settles)
       in
       let rest = got id c step.trailing (maybe step.given) step.place ws in
       subst (λ (v : Walk). Ends id rows p t g k (word ∷ ws) (fold (walked c []) v ws).held) (sym step.is)
       (record {
         ready = end.ready;
-        taken = end.taken ∙ ap (λ vs. vs ++ rest) step.taken ∙ append_assoc (all_taken id rows p) step.adds rest ∙ ap (λ vs. all_taken id rows p ++ vs) (sym (step.got_on ws));
+        taken = end.taken ∙ ap (λ vs. vs ++ rest) step.taken ∙ append_assoc (all_taken id rows p) step.adds rest
+            ∙ ap (λ vs. all_taken id rows p ++ vs) (sym (step.got_on ws));
         follows = step.follows ws end.follows;
       })
 
-  pub ends : (id : Text) (ws : List Text) (t : Bool) (g : Option Rule) (w : Waiting) (k : ℕ) (rows : List Row) (p : Pending) → EndsAt id t g w k rows p ws
+  pub ends : (id : Text) (ws : List Text) (t : Bool) (g : Option Rule) (w : Waiting) (k : ℕ) (rows : List Row) (p : Pending)
+      → EndsAt id t g w k rows p ws
   ends id [] t g w k rows p state fault settles = ends_now id t g w k rows p state fault settles
   ends id (word ∷ ws) t g w k rows p state fault settles =
-      ends_later id t g w k rows p word ws (one_step id t g w k rows p word ws state fault settles) (λ u o v j later q. ends id ws u o v j later q) state fault settles
+      ends_later id t g w k rows p word ws (one_step id t g w k rows p word ws state fault settles) (λ u o v j later q. ends id ws u o v j later q)
+      state fault settles

@@ -1,5 +1,6 @@
 -- What is taken of the words for files is what stands at their places.
-use Rattle.std.proofs.Common.{arith, ◌≡◌, ◌∙◌, ◌++◌, ◌&&◌, ℕ, ◌-◌, Bool, true, false, not, cond, List, [], ◌∷◌, length, map, take, drop, Option, Some, None, length-drop, refl, sym, ap, subst, true≢false, codes}
+use Rattle.std.proofs.Common.{arith, ◌≡◌, ◌∙◌, ◌++◌, ◌&&◌, ℕ, ◌-◌, Bool, true, false, not, cond, List, [], ◌∷◌, length, map, take, drop, Option, Some}
+use Rattle.std.proofs.Common.{None, length-drop, refl, sym, ap, subst, true≢false, codes}
 use Rattle.std.specs.Prelude.{find, is_some, nat_eq, option_and_then, slice_get}
 use Rattle.std.specs.List.{AllByRecursion, filter, range_with_len}
 use Rattle.std.specs.Option.{option_map, option_map_or}
@@ -38,7 +39,8 @@ module _ (s : Shape) (known : AreKnown s) (once : s.args_override_self ≡ false
       in
       let e : Ends s known once id [] None false None 1 ws end = ends s known once id ws false None idle 1 [] None (idles None tt) outer.0 settles in
       record {
-        values_are = defaults-values id s.rules (settled s.rules end).rows lacks ∙ settled-values s.rules id end.rows end.pending e.ready settles ∙ e.taken;
+        values_are = defaults-values id s.rules (settled s.rules end).rows lacks ∙ settled-values s.rules id end.rows end.pending e.ready settles
+            ∙ e.taken;
         follows = e.follows;
       }
 
@@ -58,19 +60,41 @@ abbrev Named : Text → Shape → Shape → Type 0
 Named name is s = s.name ≡ name → s ≡ is
 
 all_init : below_app (Named (codes "init") (leaf init_shape))
-all_init =
-    (λ e. refl, (λ e. apart _ _ refl refl e, (λ e. apart _ _ refl refl e, (λ e. apart _ _ refl refl e, (λ e. apart _ _ refl refl e, (λ e. apart _ _ refl refl e, (λ e. apart _ _ refl refl e, tt)))))))
+all_init = (
+  λ e. refl,
+  (
+    λ e. apart _ _ refl refl e,
+    (
+      λ e. apart _ _ refl refl e,
+      (λ e. apart _ _ refl refl e, (λ e. apart _ _ refl refl e, (λ e. apart _ _ refl refl e, (λ e. apart _ _ refl refl e, tt)))),
+    ),
+  ),
+)
 
 all_run : below_app (Named (codes "run") (leaf run_shape))
-all_run =
-    (λ e. apart _ _ refl refl e, (λ e. refl, (λ e. apart _ _ refl refl e, (λ e. apart _ _ refl refl e, (λ e. apart _ _ refl refl e, (λ e. apart _ _ refl refl e, (λ e. apart _ _ refl refl e, tt)))))))
+all_run = (
+  λ e. apart _ _ refl refl e,
+  (
+    λ e. refl,
+    (
+      λ e. apart _ _ refl refl e,
+      (λ e. apart _ _ refl refl e, (λ e. apart _ _ refl refl e, (λ e. apart _ _ refl refl e, (λ e. apart _ _ refl refl e, tt)))),
+    ),
+  ),
+)
 
 all_audit : below_app (Named (codes "audit") (leaf audit_shape))
-all_audit =
-    (λ e. apart _ _ refl refl e, (λ e. apart _ _ refl refl e, (λ e. apart _ _ refl refl e, (λ e. apart _ _ refl refl e, (λ e. refl, (λ e. apart _ _ refl refl e, (λ e. apart _ _ refl refl e, tt)))))))
+all_audit = (
+  λ e. apart _ _ refl refl e,
+  (
+    λ e. apart _ _ refl refl e,
+    (λ e. apart _ _ refl refl e, (λ e. apart _ _ refl refl e, (λ e. refl, (λ e. apart _ _ refl refl e, (λ e. apart _ _ refl refl e, tt))))),
+  ),
+)
 
 -- what the rows of a command have under an id
-module _ (name : Text) (s : Shape) (all : below_app (Named name s)) (known : AreKnown s) (once : s.args_override_self ≡ false) (words : List Text) (rows : List Row) (m : NameCommand words name rows) where
+module _ (name : Text) (s : Shape) (all : below_app (Named name s)) (known : AreKnown s) (once : s.args_override_self ≡ false) (words : List Text)
+    (rows : List Row) (m : NameCommand words name rows) where
   record Has (id : Text) : Type 0 where
     pub has : values id rows ≡ got id s.rules false None 1 (drop 2 words)
     pub follows : Follows false false (drop 2 words)
@@ -79,9 +103,13 @@ module _ (name : Text) (s : Shape) (all : below_app (Named name s)) (known : Are
   has_of id lacks =
       let e : Entered (Named name s) words name rows = entered_is (Named name s) all words name rows m in
       let same : e.shape ≡ s = e.is e.named in
-      let sound : level_fault s [] nothing_held (drop 2 words) false [] ≡ [] = subst (λ (t : Shape). level_fault t [] nothing_held (drop 2 words) false [] ≡ []) same e.sound in
+      let sound : level_fault s [] nothing_held (drop 2 words) false [] ≡ [] =
+      subst (λ (t : Shape). level_fault t [] nothing_held (drop 2 words) false [] ≡ []) same e.sound in
       let given = leaf_values s known once id (drop 2 words) lacks sound in
-      record { has = ap (values id) (e.taken ∙ ap (λ (t : Shape). rows_after t.rules [] (drop 2 words)) same) ∙ given.values_are; follows = given.follows }
+      record {
+        has = ap (values id) (e.taken ∙ ap (λ (t : Shape). rows_after t.rules [] (drop 2 words)) same) ∙ given.values_are;
+        follows = given.follows;
+      }
 
 -- ---- places
 
@@ -90,19 +118,23 @@ behind words = length-drop 2 words
 
 own_positional : (words : List Text) → own false false (drop 2 words) ≡ positional_words words
 own_positional words =
-    own_places words (drop 2 words) 2 (omega arith) refl ∙ ap (λ n. map (word_at words) (filter (is_positional words) (range_with_len 2 n))) (behind words)
+    own_places words (drop 2 words) 2 (omega arith) refl
+    ∙ ap (λ n. map (word_at words) (filter (is_positional words) (range_with_len 2 n))) (behind words)
 
 -- an id that no option has, and one that no place has
-no_option_of : (id : Text) (c : List Rule) → AllByRecursion (λ (a : Rule). is_some a.index ≡ false → bytes_eq a.id id ≡ false) c → (name v : Text) → placed id (arg_by_long c name) v ≡ []
+no_option_of : (id : Text) (c : List Rule) → AllByRecursion (λ (a : Rule). is_some a.index ≡ false → bytes_eq a.id id ≡ false) c → (name v : Text)
+    → placed id (arg_by_long c name) v ≡ []
 no_option_of id c all name v = go (arg_by_long c name) refl
   where
     go : (o : Option Rule) → arg_by_long c name ≡ o → placed id o v ≡ []
     go None e = refl
     go (Some a) e =
-        let found = find_is (λ (r : Rule). is_some r.index ≡ false → bytes_eq r.id id ≡ false) (λ r. not (is_some r.index) && has_long r name) c a all e in
+        let found = find_is (λ (r : Rule). is_some r.index ≡ false → bytes_eq r.id id ≡ false) (λ r. not (is_some r.index) && has_long r name) c a
+        all e in
         ap (λ b. cond b (v ∷ []) []) (found.0 (is_false (is_some a.index) (both (not (is_some a.index)) (has_long a name) found.1).0))
 
-no_place_of : (id : Text) (c : List Rule) → AllByRecursion (λ (a : Rule). is_some a.index ≡ true → bytes_eq a.id id ≡ false) c → (k : ℕ) (w : Text) → placed id (arg_by_index c k) w ≡ []
+no_place_of : (id : Text) (c : List Rule) → AllByRecursion (λ (a : Rule). is_some a.index ≡ true → bytes_eq a.id id ≡ false) c → (k : ℕ) (w : Text)
+    → placed id (arg_by_index c k) w ≡ []
 no_place_of id c all k w = go (arg_by_index c k) refl
   where
     at : (o : Option ℕ) → option_map_or (λ j. nat_eq j k) o false ≡ true → is_some o ≡ true
@@ -112,7 +144,8 @@ no_place_of id c all k w = go (arg_by_index c k) refl
     go : (o : Option Rule) → arg_by_index c k ≡ o → placed id o w ≡ []
     go None e = refl
     go (Some a) e =
-        let found = find_is (λ (r : Rule). is_some r.index ≡ true → bytes_eq r.id id ≡ false) (λ r. option_map_or (λ j. nat_eq j k) r.index false) c a all e in
+        let found = find_is (λ (r : Rule). is_some r.index ≡ true → bytes_eq r.id id ≡ false) (λ r. option_map_or (λ j. nat_eq j k) r.index false) c
+        a all e in
         ap (λ b. cond b (w ∷ []) []) (found.0 (at a.index found.1))
 
 -- ---- what each of the files' ids has
@@ -126,7 +159,12 @@ data Either : ℕ → Type 0 where
   two : Either 2
 
 client_of_run : Picks (codes "client") (leaf run_shape).rules First (λ k l. l)
-client_of_run = record { no_option = no_option_of (codes "client") (leaf run_shape).rules (λ e. refl, (λ e. refl, (λ e. absurd (true≢false e), (λ e. refl, tt)))); none = λ k at. refl; on = on; adds = adds }
+client_of_run = record {
+  no_option = no_option_of (codes "client") (leaf run_shape).rules (λ e. refl, (λ e. refl, (λ e. absurd (true≢false e), (λ e. refl, tt))));
+  none = λ k at. refl;
+  on = on;
+  adds = adds;
+}
   where
     on : (k : ℕ) → First k → First (after (arg_by_index (leaf run_shape).rules k) k)
     on k first_place = first_place
@@ -143,7 +181,8 @@ rest_pick k l = cond (nat_eq k 1) (drop 1 l) l
 
 mint_of_init : Picks (codes "mint") (leaf init_shape).rules Either mint_pick
 mint_of_init = record {
-  no_option = no_option_of (codes "mint") (leaf init_shape).rules (λ e. refl, (λ e. refl, (λ e. refl, (λ e. refl, (λ e. absurd (true≢false e), (λ e. refl, tt))))));
+  no_option = no_option_of (codes "mint") (leaf init_shape).rules
+      (λ e. refl, (λ e. refl, (λ e. refl, (λ e. refl, (λ e. absurd (true≢false e), (λ e. refl, tt))))));
   none = none;
   on = on;
   adds = adds;
@@ -158,12 +197,18 @@ mint_of_init = record {
     on k two = two
 
     adds : (k : ℕ) → Either k → (w : Text) (ws : List Text)
-        → placed (codes "mint") (arg_by_index (leaf init_shape).rules k) w ++ mint_pick (after (arg_by_index (leaf init_shape).rules k) k) ws ≡ mint_pick k (w ∷ ws)
+        → placed (codes "mint") (arg_by_index (leaf init_shape).rules k) w ++ mint_pick (after (arg_by_index (leaf init_shape).rules k) k) ws
+        ≡ mint_pick k (w ∷ ws)
     adds k one w ws = refl
     adds k two w ws = refl
 
 mint_of_audit : Picks (codes "mint") (leaf audit_shape).rules Either mint_pick
-mint_of_audit = record { no_option = no_option_of (codes "mint") (leaf audit_shape).rules (λ e. absurd (true≢false e), (λ e. refl, (λ e. refl, tt))); none = none; on = on; adds = adds }
+mint_of_audit = record {
+  no_option = no_option_of (codes "mint") (leaf audit_shape).rules (λ e. absurd (true≢false e), (λ e. refl, (λ e. refl, tt)));
+  none = none;
+  on = on;
+  adds = adds;
+}
   where
     none : (k : ℕ) → Either k → mint_pick k [] ≡ []
     none k one = refl
@@ -174,12 +219,18 @@ mint_of_audit = record { no_option = no_option_of (codes "mint") (leaf audit_sha
     on k two = two
 
     adds : (k : ℕ) → Either k → (w : Text) (ws : List Text)
-        → placed (codes "mint") (arg_by_index (leaf audit_shape).rules k) w ++ mint_pick (after (arg_by_index (leaf audit_shape).rules k) k) ws ≡ mint_pick k (w ∷ ws)
+        → placed (codes "mint") (arg_by_index (leaf audit_shape).rules k) w ++ mint_pick (after (arg_by_index (leaf audit_shape).rules k) k) ws
+        ≡ mint_pick k (w ∷ ws)
     adds k one w ws = refl
     adds k two w ws = refl
 
 clients_of_audit : Picks (codes "client") (leaf audit_shape).rules Either rest_pick
-clients_of_audit = record { no_option = no_option_of (codes "client") (leaf audit_shape).rules (λ e. refl, (λ e. absurd (true≢false e), (λ e. refl, tt))); none = none; on = on; adds = adds }
+clients_of_audit = record {
+  no_option = no_option_of (codes "client") (leaf audit_shape).rules (λ e. refl, (λ e. absurd (true≢false e), (λ e. refl, tt)));
+  none = none;
+  on = on;
+  adds = adds;
+}
   where
     none : (k : ℕ) → Either k → rest_pick k [] ≡ []
     none k one = refl
@@ -190,7 +241,8 @@ clients_of_audit = record { no_option = no_option_of (codes "client") (leaf audi
     on k two = two
 
     adds : (k : ℕ) → Either k → (w : Text) (ws : List Text)
-        → placed (codes "client") (arg_by_index (leaf audit_shape).rules k) w ++ rest_pick (after (arg_by_index (leaf audit_shape).rules k) k) ws ≡ rest_pick k (w ∷ ws)
+        → placed (codes "client") (arg_by_index (leaf audit_shape).rules k) w ++ rest_pick (after (arg_by_index (leaf audit_shape).rules k) k) ws
+        ≡ rest_pick k (w ∷ ws)
     adds k one w ws = refl
     adds k two w ws = refl
 
@@ -202,15 +254,21 @@ turned a b e = go (bytes_eq b a) refl
     go false f = f
 
 verdicts_of_run : IsNamed (codes "verdicts") (leaf run_shape).rules
-verdicts_of_run = record { named = named; no_place = no_place_of (codes "verdicts") (leaf run_shape).rules (λ e. absurd (true≢false (sym e)), (λ e. refl, (λ e. refl, (λ e. refl, tt)))) }
+verdicts_of_run = record {
+  named = named;
+  no_place = no_place_of (codes "verdicts") (leaf run_shape).rules (λ e. absurd (true≢false (sym e)), (λ e. refl, (λ e. refl, (λ e. refl, tt))));
+}
   where
-    named : (name v : Text) → placed (codes "verdicts") (arg_by_long (leaf run_shape).rules name) v ≡ cond (bytes_eq name (codes "verdicts")) (v ∷ []) []
+    named : (name v : Text) → placed (codes "verdicts") (arg_by_long (leaf run_shape).rules name) v
+        ≡ cond (bytes_eq name (codes "verdicts")) (v ∷ []) []
     named name v = go (bytes_eq (codes "verdicts") name) refl (bytes_eq (codes "repeats") name) refl (bytes_eq (codes "help") name) refl
       where
-        go : (a : Bool) → bytes_eq (codes "verdicts") name ≡ a → (b : Bool) → bytes_eq (codes "repeats") name ≡ b → (d : Bool) → bytes_eq (codes "help") name ≡ d
+        go : (a : Bool) → bytes_eq (codes "verdicts") name ≡ a → (b : Bool) → bytes_eq (codes "repeats") name ≡ b → (d : Bool)
+            → bytes_eq (codes "help") name ≡ d
             → placed (codes "verdicts") (arg_by_long (leaf run_shape).rules name) v ≡ cond (bytes_eq name (codes "verdicts")) (v ∷ []) []
         go true e b f d h =
-            let here : bytes_eq name (codes "verdicts") ≡ true = sym (ap (λ t. bytes_eq t (codes "verdicts")) (same_text (codes "verdicts") name e)) in
+            let here : bytes_eq name (codes "verdicts") ≡ true = sym (ap (λ t. bytes_eq t (codes "verdicts")) (same_text (codes "verdicts") name e))
+            in
             rw (e, here) refl
         go false e true f d h = let here : bytes_eq name (codes "verdicts") ≡ false = turned (codes "verdicts") name e in rw (e, f, here) refl
         go false e false f true h = let here : bytes_eq name (codes "verdicts") ≡ false = turned (codes "verdicts") name e in rw (e, f, h, here) refl
@@ -225,35 +283,48 @@ mint_first words = go (positional_words words)
     go [] = refl
     go (x ∷ xs) = refl
 
-init_law : (words : List Text) (rows : List Row) → NameCommand words (codes "init") rows → first_of (codes "mint") rows ≡ slice_get (positional_words words) 0
+init_law : (words : List Text) (rows : List Row) → NameCommand words (codes "init") rows
+    → first_of (codes "mint") rows ≡ slice_get (positional_words words) 0
 init_law words rows m =
     let c = (leaf init_shape).rules in
-    let h = has_of (codes "init") (leaf init_shape) all_init init_known refl words rows m (codes "mint")
-    (λ e. absurd (true≢false (sym e)), (λ e. absurd (true≢false (sym e)), (λ e. absurd (true≢false (sym e)), (λ e. absurd (true≢false (sym e)), (λ e. refl, (λ e. refl, tt))))))
+    let h = has_of (codes "init") (leaf init_shape) all_init init_known refl words rows m (codes "mint") (
+      λ e. absurd (true≢false (sym e)),
+      (λ e. absurd (true≢false (sym e)), (λ e. absurd (true≢false (sym e)), (λ e. absurd (true≢false (sym e)), (λ e. refl, (λ e. refl, tt))))),
+    )
     in
     first_values (codes "mint") rows
-    ∙ ap (λ l. slice_get l 0) (h.has ∙ picked (codes "mint") c Either mint_pick mint_of_init (drop 2 words) false None 1 one tt h.follows ∙ ap (take 1) (own_positional words)) ∙ mint_first words
+    ∙ ap (λ l. slice_get l 0) (h.has ∙ picked (codes "mint") c Either mint_pick mint_of_init (drop 2 words) false None 1 one tt h.follows
+    ∙ ap (take 1) (own_positional words)) ∙ mint_first words
 
 run_law : (words : List Text) (rows : List Row) → NameCommand words (codes "run") rows
-    → (first_of (codes "verdicts") rows ≡ option_word (codes "verdicts") words) × (names_or_none (all_of (codes "client") rows) ≡ positional_words words)
+    → (first_of (codes "verdicts") rows ≡ option_word (codes "verdicts") words)
+    × (names_or_none (all_of (codes "client") rows) ≡ positional_words words)
 run_law words rows m =
     let c = (leaf run_shape).rules in
-    let v = has_of (codes "run") (leaf run_shape) all_run run_known refl words rows m (codes "verdicts") (λ e. refl, (λ e. absurd (true≢false (sym e)), (λ e. refl, (λ e. refl, tt)))) in
-    let h = has_of (codes "run") (leaf run_shape) all_run run_known refl words rows m (codes "client") (λ e. refl, (λ e. absurd (true≢false (sym e)), (λ e. refl, (λ e. refl, tt)))) in (
-      first_values (codes "verdicts") rows ∙ ap (λ l. slice_get l 0) v.has ∙ first words (codes "verdicts") c verdicts_of_run (drop 2 words) 2 None 1 (omega arith) refl refl tt v.follows
+    let v = has_of (codes "run") (leaf run_shape) all_run run_known refl words rows m (codes "verdicts")
+    (λ e. refl, (λ e. absurd (true≢false (sym e)), (λ e. refl, (λ e. refl, tt)))) in
+    let h = has_of (codes "run") (leaf run_shape) all_run run_known refl words rows m (codes "client")
+    (λ e. refl, (λ e. absurd (true≢false (sym e)), (λ e. refl, (λ e. refl, tt)))) in (
+      first_values (codes "verdicts") rows ∙ ap (λ l. slice_get l 0) v.has
+          ∙ first words (codes "verdicts") c verdicts_of_run (drop 2 words) 2 None 1 (omega arith) refl refl tt v.follows
           ∙ ap (λ n. option_and_then (value_at words) (find (names_option (codes "verdicts") words) (range_with_len 2 n))) (behind words),
       h.has ∙ picked (codes "client") c First (λ k l. l) client_of_run (drop 2 words) false None 1 first_place tt h.follows ∙ own_positional words,
     )
 
 audit_law : (words : List Text) (rows : List Row) → NameCommand words (codes "audit") rows
-    → (first_of (codes "mint") rows ≡ slice_get (positional_words words) 0) × (names_or_none (all_of (codes "client") rows) ≡ drop 1 (positional_words words))
+    → (first_of (codes "mint") rows ≡ slice_get (positional_words words) 0)
+    × (names_or_none (all_of (codes "client") rows) ≡ drop 1 (positional_words words))
 audit_law words rows m =
     let c = (leaf audit_shape).rules in
-    let mint = has_of (codes "audit") (leaf audit_shape) all_audit audit_known refl words rows m (codes "mint") (λ e. refl, (λ e. refl, (λ e. refl, tt))) in
-    let h = has_of (codes "audit") (leaf audit_shape) all_audit audit_known refl words rows m (codes "client") (λ e. refl, (λ e. refl, (λ e. refl, tt))) in (
+    let mint = has_of (codes "audit") (leaf audit_shape) all_audit audit_known refl words rows m (codes "mint")
+    (λ e. refl, (λ e. refl, (λ e. refl, tt))) in
+    let h = has_of (codes "audit") (leaf audit_shape) all_audit audit_known refl words rows m (codes "client")
+    (λ e. refl, (λ e. refl, (λ e. refl, tt))) in (
       first_values (codes "mint") rows
-          ∙ ap (λ l. slice_get l 0) (mint.has ∙ picked (codes "mint") c Either mint_pick mint_of_audit (drop 2 words) false None 1 one tt mint.follows ∙ ap (take 1) (own_positional words)) ∙ mint_first words,
-      h.has ∙ picked (codes "client") c Either rest_pick clients_of_audit (drop 2 words) false None 1 one tt h.follows ∙ ap (drop 1) (own_positional words),
+          ∙ ap (λ l. slice_get l 0) (mint.has ∙ picked (codes "mint") c Either mint_pick mint_of_audit (drop 2 words) false None 1 one tt
+          mint.follows ∙ ap (take 1) (own_positional words)) ∙ mint_first words,
+      h.has ∙ picked (codes "client") c Either rest_pick clients_of_audit (drop 2 words) false None 1 one tt h.follows
+          ∙ ap (drop 1) (own_positional words),
     )
 
 pub taken_law : WordsTakenLaw

@@ -9,8 +9,11 @@ use Rattle.command_line.specs.Places.{word_at}
 use Rattle.command_line.specs.Words.{texts}
 
 -- the text of a word that was read
-pub text_at : (words : List (String Global)) (w : String Global) (i : ℕ) → i < length words → w ≡ get_or words i w → slice_get (texts words) i ≡ Some (string_bytes w)
-text_at words w i inside is = slice_get-map string_bytes words i ∙ ap (option_map string_bytes) (slice_get_read words (length words) i w refl inside is)
+pub text_at : (words : List (String Global)) (w : String Global) (i : ℕ) → i < length words → w ≡ get_or words i w
+    → slice_get (texts words) i ≡ Some (string_bytes w)
+text_at words w i inside is = slice_get-map string_bytes words i
+    ∙ ap (option_map string_bytes) (slice_get_read words (length words) i w refl inside is)
 
-pub word_text : (words : List (String Global)) (w : String Global) (i : ℕ) → i < length words → w ≡ get_or words i w → word_at (texts words) i ≡ string_bytes w
+pub word_text : (words : List (String Global)) (w : String Global) (i : ℕ) → i < length words → w ≡ get_or words i w
+    → word_at (texts words) i ≡ string_bytes w
 word_text words w i inside is = get_or-map string_bytes words i w [] inside ∙ ap string_bytes (sym is)

@@ -1,12 +1,14 @@
 -- The values that rows have under an id, and what a use of an argument adds.
-use Rattle.std.proofs.Common.{◌≡◌, ◌∙◌, ◌⊎◌, ◌++◌, ◌&&◌, Bool, true, false, cond, List, [], ◌∷◌, length, Option, Some, None, append-nil, inl, inr, refl, sym, ap, subst, true≢false}
+use Rattle.std.proofs.Common.{◌≡◌, ◌∙◌, ◌⊎◌, ◌++◌, ◌&&◌, Bool, true, false, cond, List, [], ◌∷◌, length, Option, Some, None, append-nil, inl, inr}
+use Rattle.std.proofs.Common.{refl, sym, ap, subst, true≢false}
 use Rattle.std.specs.Prelude.{is_some}
 use Rattle.std.specs.List.{AllByRecursion, fold}
 use Rattle.std.specs.Option.{option_map, option_map_or}
 use Rattle.std.specs.Str.{bytes_eq}
 use Rattle.std.proofs.lemmas.Slice.Eq.{bytes_eq-Decides}
 use Rattle.clap.specs.Kinds.{Kinds, or_else, range_kinds}
-use Rattle.clap.specs.Walk.{Held, Row, Rule, Text, action_of, arg_by_id, default_rows, has_row, most_values, reading_by, settled_rows, used, used_as, used_by_id, values_or_missing, with_default, with_values, without}
+use Rattle.clap.specs.Walk.{Held, Row, Rule, Text, action_of, arg_by_id, default_rows, has_row, most_values, reading_by, settled_rows, used, used_as}
+use Rattle.clap.specs.Walk.{used_by_id, values_or_missing, with_default, with_values, without}
 use Rattle.clap.specs.Facts.{unwrap_or_range}
 use Rattle.clap.specs.Faults.{action_fault, repeat_fault, use_fault, values_fault}
 use Rattle.clap.specs.Words.{all_of}
@@ -54,7 +56,8 @@ module _ (id other : Text) (how : Reading) (source : ValueSource) (vs : List Tex
       first false = refl
   values-more (r ∷ rs) = step (bytes_eq r.id other) refl (bytes_eq r.id id) refl (values-more rs)
     where
-      step : (a : Bool) → bytes_eq r.id other ≡ a → (b : Bool) → bytes_eq r.id id ≡ b → values id (joined rs) ≡ values id rs ++ cond (bytes_eq other id) vs []
+      step : (a : Bool) → bytes_eq r.id other ≡ a → (b : Bool) → bytes_eq r.id id ≡ b
+          → values id (joined rs) ≡ values id rs ++ cond (bytes_eq other id) vs []
           → values id (joined (r ∷ rs)) ≡ values id (r ∷ rs) ++ cond (bytes_eq other id) vs []
       step true e true f rest =
           let here : bytes_eq other id ≡ true = ap (λ t. bytes_eq t id) (sym (same_text r.id other e)) ∙ f in
@@ -95,14 +98,17 @@ no_repeat : (b : Bool) → (cond (b && true) (ArgumentConflict ∷ []) []) ≡ [
 no_repeat true e = absurd (cc)
 no_repeat false e = refl
 
-pub used-values : (id : Text) (a : Rule) (vs : List Text) (rows : List Row) → IsTaken a → use_fault false a vs rows ≡ [] → values id (used a vs rows) ≡ values id rows ++ cond (bytes_eq a.id id) vs []
+pub used-values : (id : Text) (a : Rule) (vs : List Text) (rows : List Row) → IsTaken a → use_fault false a vs rows ≡ []
+    → values id (used a vs rows) ≡ values id rows ++ cond (bytes_eq a.id id) vs []
 used-values id a vs rows is sound = go is.action
   where
     again : action_of a ≡ Set → has_row a.id rows ≡ false
     again set =
         let range = range_kinds (unwrap_or_range a.range).start_inclusive (most_values a) (length vs) in
-        let action : action_fault (action_of a) false a (values_or_missing a vs) rows ≡ [] = (or_else-nil range (action_fault (action_of a) false a (values_or_missing a vs) rows) sound).1 in
-        let once : action_fault Set false a (values_or_missing a vs) rows ≡ [] = subst (λ (x : ArgAction). action_fault x false a (values_or_missing a vs) rows ≡ []) set action in
+        let action : action_fault (action_of a) false a (values_or_missing a vs) rows ≡ [] =
+        (or_else-nil range (action_fault (action_of a) false a (values_or_missing a vs) rows) sound).1 in
+        let once : action_fault Set false a (values_or_missing a vs) rows ≡ [] =
+        subst (λ (x : ArgAction). action_fault x false a (values_or_missing a vs) rows ≡ []) set action in
         no_repeat (has_row a.id rows) (or_else-nil (repeat_fault false a.id rows) (values_fault a (values_or_missing a vs)) once).0
 
     go : (action_of a ≡ Set) ⊎ (action_of a ≡ Append) → values id (used a vs rows) ≡ values id rows ++ cond (bytes_eq a.id id) vs []
@@ -137,11 +143,13 @@ IsPending c (Some p) = (a : Rule) × (arg_by_id c p.0 ≡ Some a) × (a.id ≡ p
 abbrev pub settles : List Rule → List Row → Pending → Kinds
 settles c rows pending = option_map_or (λ p. option_map_or (λ a. use_fault false a p.1 rows) (arg_by_id c p.0) []) pending []
 
-pub settled-values : (c : List Rule) (id : Text) (rows : List Row) (p : Pending) → IsPending c p → settles c rows p ≡ [] → values id (settled_rows c p rows) ≡ values id rows ++ pending_values id p
+pub settled-values : (c : List Rule) (id : Text) (rows : List Row) (p : Pending) → IsPending c p → settles c rows p ≡ []
+    → values id (settled_rows c p rows) ≡ values id rows ++ pending_values id p
 settled-values c id rows None is sound = sym (append-nil (values id rows))
 settled-values c id rows (Some p) (a, found, same, rule) sound =
     let fits : use_fault false a p.1 rows ≡ [] = rw found at sound in
-    ap (λ (o : Option Rule). values id (used_by_id o p.1 rows)) found ∙ used-values id a p.1 rows rule fits ∙ ap (λ (t : Text). values id rows ++ cond (bytes_eq t id) p.1 []) same
+    ap (λ (o : Option Rule). values id (used_by_id o p.1 rows)) found ∙ used-values id a p.1 rows rule fits
+    ∙ ap (λ (t : Text). values id rows ++ cond (bytes_eq t id) p.1 []) same
 
 -- ---- defaults
 
@@ -159,8 +167,10 @@ default-values id rows a lacks = go (has_row a.id rows) a.defaults refl
       where
         more : (b : Bool) → bytes_eq a.id id ≡ b → values id (with_values a.id (reading_by a) DefaultValue (d ∷ ds) rows) ≡ values id rows
         more true is = absurd (cc (lacks is, e))
-        more false is = values-more id a.id (reading_by a) DefaultValue (d ∷ ds) rows ∙ ap (λ (b : Bool). values id rows ++ cond b (d ∷ ds) []) is ∙ append-nil (values id rows)
+        more false is = values-more id a.id (reading_by a) DefaultValue (d ∷ ds) rows ∙ ap (λ (b : Bool). values id rows ++ cond b (d ∷ ds) []) is
+            ∙ append-nil (values id rows)
 
-pub defaults-values : (id : Text) (rules : List Rule) (rows : List Row) → AllByRecursion (LacksDefault id) rules → values id (fold with_default rows rules) ≡ values id rows
+pub defaults-values : (id : Text) (rules : List Rule) (rows : List Row) → AllByRecursion (LacksDefault id) rules
+    → values id (fold with_default rows rules) ≡ values id rows
 defaults-values id [] rows all = refl
 defaults-values id (a ∷ rules) rows all = defaults-values id rules (with_default rows a) all.1 ∙ default-values id rows a all.0

@@ -1,5 +1,6 @@
 -- What the words ask for.
-use Rattle.std.specs.Prelude.{◌≡◌, ◌⊎◌, ℕ, Bool, true, false, IsTrue, List, [], ◌∷◌, Contains, Option, Some, None, Ok, codes, drop, map, if◌then◌else◌}
+use Rattle.std.specs.Prelude.{◌≡◌, ◌⊎◌, ℕ, Bool, true, false, IsTrue, List, [], ◌∷◌, Contains, Option, Some, None, Ok, codes, drop, map}
+use Rattle.std.specs.Prelude.{if◌then◌else◌}
 use Rattle.std.specs.Str.{bytes_eq}
 use Rattle.hex.specs.Hex.{decode_of}
 use Rattle.base_types.specs.Limits.{ShapeOf}
@@ -191,7 +192,8 @@ WordsAskFor words (Show text) = HasWish (word_faults words)
 abbrev pub HasBadValue : List Text → Type 0
 HasBadValue words =
     ((rows : List Row) × NameCommand words (codes "init") rows × HasNoShape rows)
-    ⊎ (((rows : List Row) × (given : List Text) × NameCommand words (codes "status") rows × (all_of (codes "hash") rows ≡ Some given) × HasNoHashes given)
+    ⊎ (((rows : List Row) × (given : List Text) × NameCommand words (codes "status") rows × (all_of (codes "hash") rows ≡ Some given)
+    × HasNoHashes given)
     ⊎ (((rows : List Row) × NameCommand words (codes "gen") rows × HasNoWorkload rows)
     ⊎ ((rows : List Row) × NameCommand words (codes "run") rows × HasNoRepeats rows)))
 

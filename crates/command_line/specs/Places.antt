@@ -36,7 +36,8 @@ is_given words place = nat_lt 2 place && lacks_value (option_at words (place - 1
 
 -- the word at the place is a value of its own: no option, no option's value and not the first `--`
 abbrev pub is_positional : List Text → ℕ → Bool
-is_positional words place = is_trailing words place || not (is_dashes (word_at words place) || (is_some (option_at words place) || is_given words place))
+is_positional words place = is_trailing words place
+    || not (is_dashes (word_at words place) || (is_some (option_at words place) || is_given words place))
 
 -- the places of all such words, in order
 abbrev pub positional_places : List Text → List ℕ

@@ -18,12 +18,14 @@ places_of files = map (λ (f : FileWord). f.place) files
 abbrev pub AreAlike : Request → Request → Type 0
 AreAlike (Init shape mint) (Init kind file) = (shape ≡ kind) × (mint.name.now ≡ file.name.now) × (mint.place ≡ file.place)
 AreAlike (Run verdicts clients options) (Run told files others) =
-    (verdicts.name.now ≡ told.name.now) × (names_of clients.items ≡ names_of files.items) × (verdicts.place ≡ told.place) × (places_of clients.items ≡ places_of files.items)
+    (verdicts.name.now ≡ told.name.now) × (names_of clients.items ≡ names_of files.items) × (verdicts.place ≡ told.place)
+    × (places_of clients.items ≡ places_of files.items)
     × (options ≡ others)
 AreAlike Recover Recover = Unit {0}
 AreAlike (Status hashes) (Status sought) = hashes.items ≡ sought.items
 AreAlike (Audit mint clients) (Audit file files) =
-    (mint.name.now ≡ file.name.now) × (names_of clients.items ≡ names_of files.items) × (mint.place ≡ file.place) × (places_of clients.items ≡ places_of files.items)
+    (mint.name.now ≡ file.name.now) × (names_of clients.items ≡ names_of files.items) × (mint.place ≡ file.place)
+    × (places_of clients.items ≡ places_of files.items)
 AreAlike (Gen shape seed count options) (Gen kind number size others) = (shape ≡ kind) × (seed ≡ number) × (count ≡ size) × (options ≡ others)
 AreAlike (Show text) (Show other) = Unit {0}
 AreAlike _ _ = ⊥

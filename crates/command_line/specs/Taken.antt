@@ -26,5 +26,7 @@ abbrev pub WordsTakenLaw : Type 0
 WordsTakenLaw =
     (words : List Text) (rows : List Row)
     → (NameCommand words (codes "init") rows → first_of (codes "mint") rows ≡ slice_get (positional_words words) 0)
-    × (NameCommand words (codes "run") rows → (first_of (codes "verdicts") rows ≡ option_word (codes "verdicts") words) × (names_or_none (all_of (codes "client") rows) ≡ positional_words words))
-    × (NameCommand words (codes "audit") rows → (first_of (codes "mint") rows ≡ slice_get (positional_words words) 0) × (names_or_none (all_of (codes "client") rows) ≡ drop 1 (positional_words words)))
+    × (NameCommand words (codes "run") rows → (first_of (codes "verdicts") rows ≡ option_word (codes "verdicts") words)
+    × (names_or_none (all_of (codes "client") rows) ≡ positional_words words))
+    × (NameCommand words (codes "audit") rows → (first_of (codes "mint") rows ≡ slice_get (positional_words words) 0)
+    × (names_or_none (all_of (codes "client") rows) ≡ drop 1 (positional_words words)))

@@ -54,30 +54,42 @@ use Rattle.commands.specs.Outcomes.{AskedWhy, Why}
 module _ {D : Type 0} (device : Ghosts D) (before after : Scene D) where
   init_none : (shape : Shape) (file : FileWord) (answer : Answer) → CanInit device before after shape file.name.now
       → WhyNoInit device before after shape file answer → answer ≡ answers.Memory
-  init_none shape file answer can (inl not_read) = not_read_none before.file before.file_faults after.file_faults file.place mint_of_file file.name.now can.mint answer can.holds not_read
+  init_none shape file answer can (inl not_read) =
+      not_read_none before.file before.file_faults after.file_faults file.place mint_of_file file.name.now can.mint answer can.holds not_read
   init_none shape file answer can (inr unmade) =
-      let same : unmade.0 ≡ can.mint = read_once before.file before.file_faults after.file_faults mint_of_file file.name.now can.mint unmade.0 can.holds unmade.1 in
-      made device before.disks.held before.disks.faults after.disks.faults shape unmade.0 answer (subst (λ (m : List Output). CanMake device before.disks.held shape m) (sym same) can.can) can.steady unmade.2
+      let same : unmade.0 ≡ can.mint = read_once before.file before.file_faults after.file_faults mint_of_file file.name.now can.mint unmade.0
+      can.holds unmade.1 in
+      made device before.disks.held before.disks.faults after.disks.faults shape unmade.0 answer
+      (subst (λ (m : List Output). CanMake device before.disks.held shape m) (sym same) can.can) can.steady unmade.2
 
-  status_none : (answer : Answer) → AreReadyFor device before after none_sound [] → WhyNoStatus device before.disks after.disks answer → answer ≡ answers.Memory
+  status_none : (answer : Answer) → AreReadyFor device before after none_sound [] → WhyNoStatus device before.disks after.disks answer
+      → answer ≡ answers.Memory
   status_none answer ready why =
       let shows = ready.shows in
-      let rooms = ample_rooms ready.shape ready.mint ready.submissions ready.journals (λ n. limit_at device (before.disks.held n)) shows.limits shows.kept none_sound [] ready.ample in
-      unopened_none device before.disks.held before.disks.faults after.disks.faults ready.shape ready.mint ready.submissions ready.journals ready.shows rooms ready.steady None answer tt why.0
+      let rooms = ample_rooms ready.shape ready.mint ready.submissions ready.journals (λ n. limit_at device (before.disks.held n)) shows.limits
+      shows.kept none_sound [] ready.ample in
+      unopened_none device before.disks.held before.disks.faults after.disks.faults ready.shape ready.mint ready.submissions ready.journals
+      ready.shows rooms ready.steady None answer tt why.0
 
   -- what is not resumed
-  unresumed : (sound : FullTx → Bool) (handed : List (List FullTx)) (answer : Answer) → AreReadyFor device before after sound handed → IsUnresumed device before.disks.held before.disks.faults after.disks.faults answer → answer ≡ answers.Memory
+  unresumed : (sound : FullTx → Bool) (handed : List (List FullTx)) (answer : Answer) → AreReadyFor device before after sound handed
+      → IsUnresumed device before.disks.held before.disks.faults after.disks.faults answer → answer ≡ answers.Memory
   unresumed sound handed answer ready (inl unopened) =
       let shows = ready.shows in
-      let rooms = ample_rooms ready.shape ready.mint ready.submissions ready.journals (λ n. limit_at device (before.disks.held n)) shows.limits shows.kept sound handed ready.ample in
-      unopened_none device before.disks.held before.disks.faults after.disks.faults ready.shape ready.mint ready.submissions ready.journals ready.shows rooms ready.steady None answer tt unopened
-  unresumed sound handed answer ready (inr (inl unsound)) = absurd (unsound_none device before.disks.held ready.shape ready.mint ready.submissions ready.journals ready.shows answer unsound)
+      let rooms = ample_rooms ready.shape ready.mint ready.submissions ready.journals (λ n. limit_at device (before.disks.held n)) shows.limits
+      shows.kept sound handed ready.ample in
+      unopened_none device before.disks.held before.disks.faults after.disks.faults ready.shape ready.mint ready.submissions ready.journals
+      ready.shows rooms ready.steady None answer tt unopened
+  unresumed sound handed answer ready (inr (inl unsound)) =
+      absurd (unsound_none device before.disks.held ready.shape ready.mint ready.submissions ready.journals ready.shows answer unsound)
   unresumed sound handed answer ready (inr (inr memory)) = memory
 
-  recover_none : (answer : Answer) → AreReadyFor device before after none_sound [] → WhyNoTurns device before.disks after.disks open_turns answer → answer ≡ answers.Memory
+  recover_none : (answer : Answer) → AreReadyFor device before after none_sound [] → WhyNoTurns device before.disks after.disks open_turns answer
+      → answer ≡ answers.Memory
   recover_none answer ready (inl unbegun) = unresumed none_sound [] answer ready unbegun.0
   recover_none answer ready (inr lane) =
-      recovery_none device before.disks after.disks ready.shape ready.mint ready.submissions ready.journals ready.shows ready.steady none_sound ready.ample answer lane
+      recovery_none device before.disks after.disks ready.shape ready.mint ready.submissions ready.journals ready.shows ready.steady none_sound
+      ready.ample answer lane
 
   module _ (verdicts : FileWord) (clients : List FileWord) (can : CanRun device before after verdicts.name.now (names_of clients)) where
     -- over the transactions and verdicts that the files hold
@@ -88,13 +100,16 @@ module _ {D : Type 0} (device : Ghosts D) (before after : Scene D) where
         let ready = can.ready in
         run_none device before.disks after.disks ready.shape ready.mint ready.submissions ready.journals ready.shows ready.steady tells handed
         (subst (λ v. Ample ready.shape (sound_by v) (λ n. limit_at device (before.disks.held n)) handed ready.journals) (sym known)
-        (subst (λ hs. Ample ready.shape (sound_by (file_verdict can.known)) (λ n. limit_at device (before.disks.held n)) hs ready.journals) (sym these) ready.ample)) answer lane
+        (subst (λ hs. Ample ready.shape (sound_by (file_verdict can.known)) (λ n. limit_at device (before.disks.held n)) hs ready.journals)
+        (sym these) ready.ample)) answer lane
 
     run_unhindered : (answer : Answer) → WhyNoRun device before after verdicts clients answer → answer ≡ answers.Memory
     run_unhindered answer (inl not_read) = clients_none before.file before.file_faults after.file_faults clients can.handed answer can.holds not_read
-    run_unhindered answer (inr (handed, read, inl unknown)) = verdicts_none before.file before.file_faults after.file_faults verdicts.name.now can.known can.knows verdicts.place answer unknown
+    run_unhindered answer (inr (handed, read, inl unknown)) =
+        verdicts_none before.file before.file_faults after.file_faults verdicts.name.now can.known can.knows verdicts.place answer unknown
     run_unhindered answer (inr (handed, read, inr (known, knows, why))) =
-        turns_none handed (file_verdict known) answer (clients_once before.file before.file_faults after.file_faults clients 0 can.handed handed can.holds read)
+        turns_none handed (file_verdict known) answer
+        (clients_once before.file before.file_faults after.file_faults clients 0 can.handed handed can.holds read)
         (verdicts_once before.file before.file_faults after.file_faults verdicts.name.now can.known can.knows known knows) why
 
   module _ (file : FileWord) (clients : List FileWord) (can : CanAudit device before after file.name.now (names_of clients)) where
@@ -104,23 +119,29 @@ module _ {D : Type 0} (device : Ghosts D) (before after : Scene D) where
     these_files : (handed : List (List FullTx)) → AreRead before.file 0 clients handed → handed ≡ can.handed
     these_files handed read = clients_once before.file before.file_faults after.file_faults clients 0 can.handed handed can.clients_hold read
 
-    unopened : (mint : List Output) (answer : Answer) → mint ≡ can.mint → WhyUnopened device before.disks after.disks mint answer → answer ≡ answers.Memory
+    unopened : (mint : List Output) (answer : Answer) → mint ≡ can.mint → WhyUnopened device before.disks after.disks mint answer
+        → answer ≡ answers.Memory
     unopened mint answer same (inr memory) = memory
     unopened mint answer same (inl why) =
         let shows = can.shows in
-        let rooms = idle_rooms can.shape can.mint (joined can.handed) can.journals (λ n. limit_at device (before.disks.held n)) shows.limits shows.kept can.idle can.fits in
-        unopened_none device before.disks.held before.disks.faults after.disks.faults can.shape can.mint (joined can.handed) can.journals can.shows rooms can.steady (Some (genesis_id mint)) answer (ap genesis_id same) why
+        let rooms = idle_rooms can.shape can.mint (joined can.handed) can.journals (λ n. limit_at device (before.disks.held n)) shows.limits
+        shows.kept can.idle can.fits in
+        unopened_none device before.disks.held before.disks.faults after.disks.faults can.shape can.mint (joined can.handed) can.journals can.shows
+        rooms can.steady (Some (genesis_id mint)) answer (ap genesis_id same) why
 
     unaudited : (answer : Answer) → WhyUnaudited device before after file clients answer → answer ≡ answers.Memory
-    unaudited answer (inl not_read) = not_read_none before.file before.file_faults after.file_faults file.place mint_of_file file.name.now can.mint answer can.holds not_read
-    unaudited answer (inr (mint, read, inl not_read)) = clients_none before.file before.file_faults after.file_faults clients can.handed answer can.clients_hold not_read
+    unaudited answer (inl not_read) = not_read_none before.file before.file_faults after.file_faults file.place mint_of_file file.name.now can.mint
+        answer can.holds not_read
+    unaudited answer (inr (mint, read, inl not_read)) =
+        clients_none before.file before.file_faults after.file_faults clients can.handed answer can.clients_hold not_read
     unaudited answer (inr (mint, read, inr (handed, are_read, why))) = unopened mint answer (this_mint mint read) why
 
     never_wrong : (place : ℕ) (kind : UnsoundKind) → WasAudited device before.file before.disks after.disks file clients (Unsound place kind) → ⊥
     never_wrong place kind was =
         audit_sound device before.disks.held can.shape can.mint (joined can.handed) can.journals can.shows can.idle can.clean place kind
         (subst (λ (m : List Output). IsAudited device before.disks.held m (joined can.handed) (Unsound place kind)) (this_mint was.mint was.read)
-        (subst (λ (hs : List (List FullTx)). IsAudited device before.disks.held was.mint (joined hs) (Unsound place kind)) (these_files was.handed was.clients_read) was.audited))
+        (subst (λ (hs : List (List FullTx)). IsAudited device before.disks.held was.mint (joined hs) (Unsound place kind))
+        (these_files was.handed was.clients_read) was.audited))
 
     unsound : (answer : Answer) → IsUnsoundBy (WasAudited device before.file before.disks after.disks file clients) answer → answer ≡ answers.Memory
     unsound (answers.Unsound place kind) was = absurd (never_wrong place kind was)
@@ -145,7 +166,8 @@ module _ {D : Type 0} (device : Ghosts D) (before after : Scene D) where
       | inr without ↦ unaudited answer without
     ]
 
-  gen_none : (shape : Shape) (seed size : ℕ) (watch : Bool) (answer : Answer) → Clean (mint_of seed size) (all_submissions seed size) → WhyNoWorkload shape seed size watch answer → answer ≡ answers.Memory
+  gen_none : (shape : Shape) (seed size : ℕ) (watch : Bool) (answer : Answer) → Clean (mint_of seed size) (all_submissions seed size)
+      → WhyNoWorkload shape seed size watch answer → answer ≡ answers.Memory
   gen_none shape seed size watch (answers.Unsound place kind) clean unsound = absurd (unsound.unclean clean)
   gen_none shape seed size watch answers.Memory clean why = refl
   gen_none shape seed size watch answers.Ok clean why = absurd why
@@ -191,7 +213,9 @@ module _ {D : Type 0} (device : Ghosts D) (before after : Scene D) where
   free_alike (Audit mint clients) (Audit file others) alike free =
       subst (λ (names : List Text). CanAudit device before after file.name.now names) alike.1
       (subst (λ (name : Text). CanAudit device before after name (names_of clients.items)) alike.0 free)
-  free_alike (Gen shape seed size options) (Gen kind number count others) alike free = subst (λ k. Clean (mint_of number k) (all_submissions number k)) alike.2 (subst (λ k. Clean (mint_of k size) (all_submissions k size)) alike.1 free)
+  free_alike (Gen shape seed size options) (Gen kind number count others) alike free =
+      subst (λ k. Clean (mint_of number k) (all_submissions number k)) alike.2
+      (subst (λ k. Clean (mint_of k size) (all_submissions k size)) alike.1 free)
   free_alike (Show text) (Show other) alike free = tt
   free_alike _ _ alike free = absurd alike
 
@@ -208,7 +232,8 @@ module _ {D : Type 0} (device : Ghosts D) (before after : Scene D) where
     told_none : (answer : Answer) → (other : Request) × WordsAskFor words other × Caused other answer → answer ≡ answers.Memory
     told_none answer told = why_none told.0 answer (free_alike r told.0 (one_request_law words r told.0 asked told.1) free) told.2
 
-    pub complete : (answer : Answer) → HasToldCause (AskedWhy device before after words) answer → (answer ≡ answers.BadWords → AreWordsRefused words Bad) → IsWell answer ⊎ (answer ≡ answers.Memory)
+    pub complete : (answer : Answer) → HasToldCause (AskedWhy device before after words) answer
+        → (answer ≡ answers.BadWords → AreWordsRefused words Bad) → IsWell answer ⊎ (answer ≡ answers.Memory)
     complete answers.Ok told bad = inl tt
     complete answers.Memory told bad = inr refl
     complete answers.BadWords told bad = absurd (asked_law words r (has_hashes r free) asked (bad refl))

@@ -19,12 +19,16 @@ use Rattle.command_answers.specs.Texts.{IsPrinted}
 
 -- the scene of these, where an output took this
 abbrev pub behind : {D : Type 0} → (Text → Option (List ℕ)) → (Text → ℕ) → Disks D → Option Text → ℕ → Scene D
-behind file file_faults disks printed print_faults = record { file = file; file_faults = file_faults; disks = disks; printed = printed; print_faults = print_faults }
+behind file file_faults disks printed print_faults =
+    record { file = file; file_faults = file_faults; disks = disks; printed = printed; print_faults = print_faults }
 
-module _ {D : Type 0} (device : Ghosts D) (before : Scene D) (file : Text → Option (List ℕ)) (file_faults : Text → ℕ) (disks : Disks D) (mid now : Option Text) (mid_faults now_faults : ℕ)
+module _ {D : Type 0} (device : Ghosts D) (before : Scene D) (file : Text → Option (List ℕ)) (file_faults : Text → ℕ) (disks : Disks D)
+    (mid now : Option Text) (mid_faults now_faults : ℕ)
     (a : Answer) (by : (text : Text) → IsPrinted before.printed mid a text → IsPrinted before.printed now a text) where
-  pub did_by : (r : Request) → Did device before (behind file file_faults disks mid mid_faults) r a → Did device before (behind file file_faults disks now now_faults) r a
-  did_by (Init shape mint) is = init_by device before.file before.disks disks (IsPrinted before.printed mid a) (IsPrinted before.printed now a) by shape mint is
+  pub did_by : (r : Request) → Did device before (behind file file_faults disks mid mid_faults) r a
+      → Did device before (behind file file_faults disks now now_faults) r a
+  did_by (Init shape mint) is = init_by device before.file before.disks disks (IsPrinted before.printed mid a) (IsPrinted before.printed now a) by
+      shape mint is
   did_by (Run verdicts clients options) is = record {
     handed = is.handed;
     known = is.known;
@@ -42,13 +46,24 @@ module _ {D : Type 0} (device : Ghosts D) (before : Scene D) (file : Text → Op
         record { recovered = told.recovered; text = told.text; lines = told.lines; prints = by told.text told.prints },
   )
   did_by (Status hashes) is =
-      record { shape = is.shape; genesis = is.genesis; journals = is.journals; limits = is.limits; opened = is.opened; room = is.room; back = is.back; holds = is.holds; prints = by _ is.prints }
+      record {
+        shape = is.shape;
+        genesis = is.genesis;
+        journals = is.journals;
+        limits = is.limits;
+        opened = is.opened;
+        room = is.room;
+        back = is.back;
+        holds = is.holds;
+        prints = by _ is.prints;
+      }
   did_by (Audit mint clients) is = record { totals = is.totals; was = is.was; sentence = is.sentence; prints = by _ is.prints }
   did_by (Gen shape seed count options) is = (is.0, (is.1.0, is.1.1, by is.1.0 is.1.2))
   did_by (Show text) is = by _ is
 
 -- why it was not done, and what is left, is the same whatever more is printed
-module _ {D : Type 0} (device : Ghosts D) (before : Scene D) (file : Text → Option (List ℕ)) (file_faults : Text → ℕ) (disks : Disks D) (mid now : Option Text) (mid_faults now_faults : ℕ) (a : Answer) where
+module _ {D : Type 0} (device : Ghosts D) (before : Scene D) (file : Text → Option (List ℕ)) (file_faults : Text → ℕ) (disks : Disks D)
+    (mid now : Option Text) (mid_faults now_faults : ℕ) (a : Answer) where
   abbrev Mid : Scene D
   Mid = behind file file_faults disks mid mid_faults
 
@@ -96,7 +111,9 @@ nothing_more mid new t (Err e) is at =
     same ∙ ap (λ (l : Text). Some l) (ap (λ (l : Text). t ++ l) (take-nil n) ∙ append-nil t)
 
 -- all was done, so there is no line of a fault behind it
-pub printed_still : {E : Type 0} (old mid new : Option Text) (name text : Text) (r : Result (Unit {0}) E) (a : Answer) → Prints mid new (fault_text a name) r → IsPrinted old mid a text → IsPrinted old new a text
+pub printed_still : {E : Type 0} (old mid new : Option Text) (name text : Text) (r : Result (Unit {0}) E) (a : Answer)
+    → Prints mid new (fault_text a name) r → IsPrinted old mid a text → IsPrinted old new a text
 printed_still old mid new name text r answers.Ok more is = λ t at. nothing_more mid new (t ++ text) r more (is t at)
-printed_still old mid new name text r answers.WriteFault more is = λ t at. let (n, front) = is t at in (n, nothing_more mid new (t ++ take n text) r more front)
+printed_still old mid new name text r answers.WriteFault more is = λ t at. let (n, front) = is t at in
+    (n, nothing_more mid new (t ++ take n text) r more front)
 printed_still old mid new name text r other more is = tt

@@ -35,20 +35,24 @@ same_mint r a b is also = let same = sym is ∙ also in cc
 
 module _ {D : Type 0} (device : Ghosts D) (held : ℕ → Option D) where
   -- what is not opened is answered by no place of a history
-  no_place : (before now : ℕ → ℕ) (id : Option Digest) (place : ℕ) (kind : UnsoundKind) → IsUnopenedBy device held before now id (answers.Unsound place kind) → ⊥
+  no_place : (before now : ℕ → ℕ) (id : Option Digest) (place : ℕ) (kind : UnsoundKind)
+      → IsUnopenedBy device held before now id (answers.Unsound place kind) → ⊥
   no_place before now id place kind (inl (inl refused)) = refused.kind
   no_place before now None place kind (inl (inr (inl other))) = other.other
   no_place before now (Some id) place kind (inl (inr (inl other))) = let same = other.other.1 in absurd cc
   no_place before now id place kind (inl (inr (inr lacks))) = lacks.refused.kind
   no_place before now id place kind (inr lacks) = lacks.refused.kind
 
-  module _ (K : Shape) (g : Digest) (J : ℕ → List Record) (limits : IsWithinLimits K) (opens : EachOpens device held K g J) (room : AllHaveRoom device held K J) (tell : AllTell device held K) where
-    opened : (id : Option Digest) → IsMintOf id (header_of K g 0) → (before now : ℕ → ℕ) (answer : Answer) → IsOfDisks answer → IsUnopenedBy device held before now id answer → ⊥
+  module _ (K : Shape) (g : Digest) (J : ℕ → List Record) (limits : IsWithinLimits K) (opens : EachOpens device held K g J)
+      (room : AllHaveRoom device held K J) (tell : AllTell device held K) where
+    opened : (id : Option Digest) → IsMintOf id (header_of K g 0) → (before now : ℕ → ℕ) (answer : Answer) → IsOfDisks answer
+        → IsUnopenedBy device held before now id answer → ⊥
     opened id mint before now (answers.Unsound place kind) of cause = no_place before now id place kind cause
     opened id mint before now answer of cause =
         none_refused device held before now K g J (tell_told device held K g J limits opens tell) answer of (λ full. room) id mint cause
 
-  resumed : (ledger : IsCausedLedger device held) → AllHaveRoom device held ledger.shape (λ n. journal n (reverse ledger.rows)) → HasNoCause device held (IsUnresumed device held)
+  resumed : (ledger : IsCausedLedger device held) → AllHaveRoom device held ledger.shape (λ n. journal n (reverse ledger.rows))
+      → HasNoCause device held (IsUnresumed device held)
   resumed ledger room = record {
     shape = ledger.shape;
     genesis = ledger.genesis;
@@ -56,13 +60,15 @@ module _ {D : Type 0} (device : Ghosts D) (held : ℕ → Option D) where
     limits = ledger.history.limits;
     opens = ledger.history.opened;
     none = λ tell before now answer of cause. elim cause [
-      | inl unopened ↦ opened ledger.shape ledger.genesis (λ n. journal n (reverse ledger.rows)) ledger.history.limits ledger.history.opened room tell None tt before now answer of unopened
+      | inl unopened ↦ opened ledger.shape ledger.genesis (λ n. journal n (reverse ledger.rows)) ledger.history.limits ledger.history.opened room
+          tell None tt before now answer of unopened
       | inr later ↦ ⊎_elim (λ unsound. not_both device held ledger answer tell unsound) (λ memory. subst IsOfDisks memory of) later
     ];
   }
 
 module _ {D : Type 0} (device : Ghosts D) (before : Scene D) where
-  audited : (after : Disks D) (file : FileWord) (clients : List FileWord) (verdict : Verdict) → WasAudited device before.file before.disks after file clients verdict
+  audited : (after : Disks D) (file : FileWord) (clients : List FileWord) (verdict : Verdict)
+      → WasAudited device before.file before.disks after file clients verdict
       → HasNoCause device before.disks.held (IsUnopenedOf device before file.name.now)
   audited after file clients verdict was =
       let is = was.audited in
@@ -76,7 +82,8 @@ module _ {D : Type 0} (device : Ghosts D) (before : Scene D) where
         none = λ tell faults faults_now answer of cause.
             let (bytes, other, told, reads, unopened) = cause in
             let same : was.mint ≡ other = same_mint (mint_of_file bytes) was.mint other (was.read bytes told) reads in
-            opened device before.disks.held is.shape (genesis_id was.mint) J is.history.limits is.history.opened was.room tell (Some (genesis_id other)) (ap genesis_id same) faults faults_now answer of unopened;
+            opened device before.disks.held is.shape (genesis_id was.mint) J is.history.limits is.history.opened was.room tell
+            (Some (genesis_id other)) (ap genesis_id same) faults faults_now answer of unopened;
       }
 
   -- what was done
@@ -89,7 +96,8 @@ module _ {D : Type 0} (device : Ghosts D) (before : Scene D) where
     journals = did.journals;
     limits = did.limits;
     opens = did.opened;
-    none = λ tell faults faults_now told of cause. opened device before.disks.held did.shape did.genesis did.journals did.limits did.opened did.room tell None tt faults faults_now told of cause;
+    none = λ tell faults faults_now told of cause. opened device before.disks.held did.shape did.genesis did.journals did.limits did.opened did.room
+        tell None tt faults faults_now told of cause;
   }
   did_exact after answer (Audit mint clients) did = audited after.disks mint clients.items (Sound did.totals) did.was
   did_exact after answer (Init shape mint) did = tt
@@ -97,7 +105,8 @@ module _ {D : Type 0} (device : Ghosts D) (before : Scene D) where
   did_exact after answer (Show text) did = tt
 
   -- what ended later
-  unsound_exact : (after : Disks D) (file : FileWord) (clients : List FileWord) (answer : Answer) → IsUnsoundBy (WasAudited device before.file before.disks after file clients) answer
+  unsound_exact : (after : Disks D) (file : FileWord) (clients : List FileWord) (answer : Answer)
+      → IsUnsoundBy (WasAudited device before.file before.disks after file clients) answer
       → HasNoCause device before.disks.held (IsUnopenedOf device before file.name.now)
   unsound_exact after file clients (answers.Unsound place kind) was = audited after file clients (Unsound place kind) was
   unsound_exact after file clients answer was = absurd was
@@ -114,7 +123,8 @@ module _ {D : Type 0} (device : Ghosts D) (before : Scene D) where
   exact_alike (Run verdicts clients options) (Run told words settings) alike exact = exact
   exact_alike Recover Recover alike exact = exact
   exact_alike (Status hashes) (Status sought) alike exact = exact
-  exact_alike (Audit mint clients) (Audit file words) alike exact = subst (λ (name : Text). HasNoCause device before.disks.held (IsUnopenedOf device before name)) alike.0 exact
+  exact_alike (Audit mint clients) (Audit file words) alike exact =
+      subst (λ (name : Text). HasNoCause device before.disks.held (IsUnopenedOf device before name)) alike.0 exact
   exact_alike (Gen shape seed size options) (Gen kind number count others) alike exact = tt
   exact_alike (Show text) (Show other) alike exact = tt
   exact_alike _ _ alike exact = absurd alike

@@ -1,5 +1,6 @@
 -- What nothing hinders is unhindered, where no count of a file that is told rises, nor of a node that a ledger may have.
-use Rattle.std.proofs.Common.{◌≡◌, ◌⊎◌, ◌<◌, ◌≤◌, ◌+◌, inl, inr, ⊎_elim, ℕ, Bool, true, nat_lt, if◌then◌else◌, List, [], ◌∷◌, length, Option, Some, None, Result, refl, ap, arith}
+use Rattle.std.proofs.Common.{◌≡◌, ◌⊎◌, ◌<◌, ◌≤◌, ◌+◌, inl, inr, ⊎_elim, ℕ, Bool, true, nat_lt, if◌then◌else◌, List, [], ◌∷◌, length, Option, Some}
+use Rattle.std.proofs.Common.{None, Result, refl, ap, arith}
 use Rattle.std.specs.Prelude.{is_some}
 use Rattle.std.proofs.lemmas.Bool.{cases_lt}
 use Rattle.outside.specs.Counts.{Rose}
@@ -25,13 +26,26 @@ use Rattle.commands.specs.InMemory.{IsUnhinderedWhereSteady, faultless}
 module _ {D : Type 0} (device : Ghosts D) (before after : Scene D)
     (files_steady : (name : Text) (bytes : List ℕ) → before.file name ≡ Some bytes → Rose (before.file_faults name) (after.file_faults name) → ⊥)
     (nodes_steady : (n : ℕ) → n < 80 → Rose (before.disks.faults n) (after.disks.faults n) → ⊥) where
-  holds_file : {X : Type 0} (read : List ℕ → Result X BadFile) (name : Text) (held : X) → HoldsFile before.file (λ _. 0) (λ _. 0) read name held → HoldsFile before.file before.file_faults after.file_faults read name held
-  holds_file read name held holds = record { bytes = holds.bytes; told = holds.told; reads = holds.reads; steady = files_steady name holds.bytes holds.told }
+  holds_file : {X : Type 0} (read : List ℕ → Result X BadFile) (name : Text) (held : X) → HoldsFile before.file (λ _. 0) (λ _. 0) read name held
+      → HoldsFile before.file before.file_faults after.file_faults read name held
+  holds_file read name held holds = record {
+    bytes = holds.bytes;
+    told = holds.told;
+    reads = holds.reads;
+    steady = files_steady name holds.bytes holds.told;
+  }
 
-  holds_verdicts : (name : Text) (known : VerdictFile) → HoldsVerdicts before.file (λ _. 0) (λ _. 0) name known → HoldsVerdicts before.file before.file_faults after.file_faults name known
-  holds_verdicts name known holds = record { bytes = holds.bytes; told = holds.told; reads = holds.reads; steady = files_steady name holds.bytes holds.told }
+  holds_verdicts : (name : Text) (known : VerdictFile) → HoldsVerdicts before.file (λ _. 0) (λ _. 0) name known
+      → HoldsVerdicts before.file before.file_faults after.file_faults name known
+  holds_verdicts name known holds = record {
+    bytes = holds.bytes;
+    told = holds.told;
+    reads = holds.reads;
+    steady = files_steady name holds.bytes holds.told;
+  }
 
-  hold_clients : (count : ℕ) (names : List Text) (handed : List (List FullTx)) → HoldClients before.file (λ _. 0) (λ _. 0) count names handed → HoldClients before.file before.file_faults after.file_faults count names handed
+  hold_clients : (count : ℕ) (names : List Text) (handed : List (List FullTx)) → HoldClients before.file (λ _. 0) (λ _. 0) count names handed
+      → HoldClients before.file before.file_faults after.file_faults count names handed
   hold_clients count [] [] holds = holds
   hold_clients count [] (txs ∷ more) holds = holds
   hold_clients count (name ∷ names) [] holds = holds
@@ -43,7 +57,8 @@ module _ {D : Type 0} (device : Ghosts D) (before after : Scene D)
   steady : (K : Shape) → K.shards ≤ 64 → K.coordinators ≤ 16 → NoneRises K before.disks.faults after.disks.faults
   steady K shards coordinators n low = nodes_steady n (omega (arith, low, shards, coordinators))
 
-  ready : (sound : FullTx → Bool) (handed : List (List FullTx)) → AreReadyFor device (faultless before) (faultless before) sound handed → AreReadyFor device before after sound handed
+  ready : (sound : FullTx → Bool) (handed : List (List FullTx)) → AreReadyFor device (faultless before) (faultless before) sound handed
+      → AreReadyFor device before after sound handed
   ready sound handed is = record {
     shape = is.shape;
     mint = is.mint;
@@ -54,12 +69,18 @@ module _ {D : Type 0} (device : Ghosts D) (before after : Scene D)
     steady = steady is.shape is.shows.limits.shards is.shows.limits.coordinators;
   }
 
-  pub unhindered : (words : List Text) (r : Request) → WordsAskFor words r → IsUnhinderedWhereSteady device before r → IsUnhindered device before after r
+  pub unhindered : (words : List Text) (r : Request) → WordsAskFor words r → IsUnhinderedWhereSteady device before r
+      → IsUnhindered device before after r
   unhindered words (Init shape mint) asked free =
       let shaped = asked.1.1 in
       record {
         mint = free.mint;
-        holds = record { bytes = free.holds.bytes; told = free.holds.told; reads = free.holds.reads; steady = files_steady mint.name.now free.holds.bytes free.holds.told };
+        holds = record {
+          bytes = free.holds.bytes;
+          told = free.holds.told;
+          reads = free.holds.reads;
+          steady = files_steady mint.name.now free.holds.bytes free.holds.told;
+        };
         can = free.can;
         steady = steady shape shaped.shards.2.bound shaped.coordinators.2.bound;
       }
@@ -75,7 +96,12 @@ module _ {D : Type 0} (device : Ghosts D) (before after : Scene D)
   unhindered words (Audit mint clients) asked free = record {
     mint = free.mint;
     handed = free.handed;
-    holds = record { bytes = free.holds.bytes; told = free.holds.told; reads = free.holds.reads; steady = files_steady mint.name.now free.holds.bytes free.holds.told };
+    holds = record {
+      bytes = free.holds.bytes;
+      told = free.holds.told;
+      reads = free.holds.reads;
+      steady = files_steady mint.name.now free.holds.bytes free.holds.told;
+    };
     clients_hold = hold_clients 0 _ free.handed free.clients_hold;
     clean = free.clean;
     shape = free.shape;
@@ -91,7 +117,8 @@ module _ {D : Type 0} (device : Ghosts D) (before after : Scene D)
 -- ---- devices in memory
 
 -- a file that is there, and is there still, has no faults
-pub steady_file : (here still : Option (List ℕ)) (bytes : List ℕ) (old new : ℕ) → here ≡ Some bytes → still ≡ here → Rose (if is_some here then 0 else old) (if is_some still then 0 else new) → ⊥
+pub steady_file : (here still : Option (List ℕ)) (bytes : List ℕ) (old new : ℕ) → here ≡ Some bytes → still ≡ here
+    → Rose (if is_some here then 0 else old) (if is_some still then 0 else new) → ⊥
 steady_file (Some held) (Some kept) bytes old new is same rose = omega (arith, rose)
 steady_file (Some held) None bytes old new is same rose = absurd cc
 steady_file None still bytes old new is same rose = absurd cc
@@ -107,7 +134,8 @@ rose_full most taken now before misses rose = elim (cases_lt now most) [
 ]
 
 -- how it ends, where the output fails only for this
-pub ended : (full : Type 0) (a : Answer) → IsWell a ⊎ (a ≡ answers.Memory) → (a ≡ answers.WriteFault → full) → (a ≡ answers.Ok) ⊎ ((a ≡ answers.Memory) ⊎ ((a ≡ answers.WriteFault) × full))
+pub ended : (full : Type 0) (a : Answer) → IsWell a ⊎ (a ≡ answers.Memory) → (a ≡ answers.WriteFault → full)
+    → (a ≡ answers.Ok) ⊎ ((a ≡ answers.Memory) ⊎ ((a ≡ answers.WriteFault) × full))
 ended full answers.Ok came written = inl refl
 ended full answers.WriteFault came written = inr (inr (refl, written refl))
 ended full a came written = ⊎_elim (λ well. absurd well) (λ memory. inr (inl memory)) came

@@ -8,7 +8,8 @@ use Rattle.requests.specs.declared.Request.{Request}
 use Rattle.command_answers.specs.Causes.{IsAnswerToRequest}
 use Rattle.commands.specs.Causes.{RequestPlace, RequestRose, IsAnswerToWords}
 
-pub answered : (words : List Text) (b n : Text → ℕ) (r : Request) (written : Type 0) (a : Answer) → WordsAskFor words r → IsAnswerToRequest (RequestPlace r) (RequestRose r b n) written a → IsAnswerToWords words b n written a
+pub answered : (words : List Text) (b n : Text → ℕ) (r : Request) (written : Type 0) (a : Answer) → WordsAskFor words r
+    → IsAnswerToRequest (RequestPlace r) (RequestRose r b n) written a → IsAnswerToWords words b n written a
 answered words b n r written answers.Ok asked is = tt
 answered words b n r written answers.BadWords asked is = absurd is
 answered words b n r written (answers.BadInput file at kind) asked is = (r, asked, is)

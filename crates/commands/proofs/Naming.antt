@@ -21,7 +21,8 @@ rose_placed (Gen shape seed count options) b n place rose = absurd rose
 rose_placed (Show text) b n place rose = absurd rose
 
 -- the name that a request has for the file that is spoken of is one that the words ask for
-pub asked_name : (words : List Text) (r : Request) (b n : Text → ℕ) (written : Type 0) (name : Text) (a : Answer) → WordsAskFor words r → IsAnswerToRequest (RequestPlace r) (RequestRose r b n) written a
+pub asked_name : (words : List Text) (r : Request) (b n : Text → ℕ) (written : Type 0) (name : Text) (a : Answer) → WordsAskFor words r
+    → IsAnswerToRequest (RequestPlace r) (RequestRose r b n) written a
     → Names (λ file name. RequestPlace r file → RequestNames r file name) a name → Names (AskedName words) a name
 asked_name words r b n written name (answers.BadInput file at kind) asked is named = (r, asked, named is)
 asked_name words r b n written name (answers.ReadFault file) asked is named = (r, asked, named (rose_placed r b n file is))

@@ -1,5 +1,6 @@
 -- What a crash behind a call leaves of a kept ledger.
-use Rattle.std.proofs.Common.{◌≡◌, ◌∙◌, ◌⊎◌, inl, inr, ℕ, ◌<◌, ◌≤◌, List, [], ◌∷◌, ◌++◌, reverse, Bool, true, false, ◌==◌, if◌then◌else◌, Option, Some, None, refl, sym, ap, subst, arith}
+use Rattle.std.proofs.Common.{◌≡◌, ◌∙◌, ◌⊎◌, inl, inr, ℕ, ◌<◌, ◌≤◌, List, [], ◌∷◌, ◌++◌, reverse, Bool, true, false, ◌==◌, if◌then◌else◌, Option}
+use Rattle.std.proofs.Common.{Some, None, refl, sym, ap, subst, arith}
 use Rattle.std.proofs.lemmas.List.{append-nil}
 use Rattle.outside.specs.Images.{NoMore}
 use Rattle.outside.specs.declared.disk.Disk.{Ghosts}
@@ -59,20 +60,24 @@ module _ (K : Shape) (mint : List Output) (n : ℕ) (inside : n < node_count K) 
       go true more = one_less H (at later) row.what (never_empty K (minted mint) later n inside) more
       go false more = more
 
-  later_journal : (submissions : List FullTx) (later : List Row) → IsSteady K (minted mint) (IsProperCompact submissions) later → IsJournal H (at []) → IsJournal H (at later)
+  later_journal : (submissions : List FullTx) (later : List Row) → IsSteady K (minted mint) (IsProperCompact submissions) later → IsJournal H (at [])
+      → IsJournal H (at later)
   later_journal submissions [] kept is = is
   later_journal submissions (row ∷ later) kept is = go (row.node == n) refl (later_journal submissions later kept.3 is)
     where
       go : (b : Bool) → (row.node == n) ≡ b → IsJournal H (at later) → IsJournal H (if b then row.what ∷ at later else at later)
       go true t rest =
           let same : row.node ≡ n = grind (arith, t) in
-          one_more H (at later) row.what (never_empty K (minted mint) later n inside) (subst (λ m. After (header_of K (genesis_id mint) m) (journal m (later ++ first_rows K (minted mint))) row.what) same kept.0) rest
+          one_more H (at later) row.what (never_empty K (minted mint) later n inside)
+          (subst (λ m. After (header_of K (genesis_id mint) m) (journal m (later ++ first_rows K (minted mint))) row.what) same kept.0) rest
       go false t rest = rest
 
   -- so is each node's journal of the one, if it is of the other
-  journal_too : (submissions others : List FullTx) (E X : ℕ → List Record) → KeptJournals K mint submissions E → KeptJournals K mint others X → IsJournal H (E n) → IsJournal H (X n)
+  journal_too : (submissions others : List FullTx) (E X : ℕ → List Record) → KeptJournals K mint submissions E → KeptJournals K mint others X
+      → IsJournal H (E n) → IsJournal H (X n)
   journal_too submissions others E X one other is =
-      subst (IsJournal H) (other.history.journals_are n) (later_journal others other.later other.kept (first_journal one.later (subst (IsJournal H) (sym (one.history.journals_are n)) is)))
+      subst (IsJournal H) (other.history.journals_are n)
+      (later_journal others other.later other.kept (first_journal one.later (subst (IsJournal H) (sym (one.history.journals_are n)) is)))
 
 -- ---- disks
 
@@ -82,7 +87,8 @@ told_or None = []
 told_or (Some c) = c
 
 module _ {D : Type 0} (device : Ghosts D) (reads : (d : D) (c : List ℕ) → device.content d ≡ Some c → device.images d c) (before now : ℕ → Option D)
-    (K : Shape) (mint : List Output) (submissions : List FullTx) (E : ℕ → List Record) (within : IsWithinLimits K) (shown : Shows device before K (genesis_id mint) E) (kept : KeptJournals K mint submissions E) where
+    (K : Shape) (mint : List Output) (submissions : List FullTx) (E : ℕ → List Record) (within : IsWithinLimits K)
+    (shown : Shows device before K (genesis_id mint) E) (kept : KeptJournals K mint submissions E) where
   abbrev bytes_of : Option D → List ℕ
   bytes_of None = []
   bytes_of (Some d) = told_or (device.content d)
@@ -138,15 +144,20 @@ module _ {D : Type 0} (device : Ghosts D) (reads : (d : D) (c : List ℕ) → de
         opens = k.1 n inside d is;
         grows = ([], refl);
         synced = λ c only. (let s = shown n inside in
-            let told : bytes_of (before n) ≡ chosen contents n = only (bytes_of (before n)) (shown_image n d inside is) ∙ sym (only (chosen contents n) (old n inside d is)) in
-            let opens : OpensTo (reverse (k.0 n)) s.2.0 = subst (λ (l : List ℕ). OpensTo (reverse (k.0 n)) l) (sym told ∙ shown_bytes n inside) (k.1 n inside d is) in
-            let journal : IsJournal (header_of K (genesis_id mint) n) (k.0 n) = journal_too K mint n inside submissions submissions E k.0 kept k.2 s.2.2.journal in
-            let one = opens_once_law (header_of K (genesis_id mint) n) (header_of K (genesis_id mint) n) (k.0 n) (E n) s.2.0 s.2.2.limits s.2.2.limits journal s.2.2.journal opens s.2.2.opens in
+            let told : bytes_of (before n) ≡ chosen contents n =
+            only (bytes_of (before n)) (shown_image n d inside is) ∙ sym (only (chosen contents n) (old n inside d is)) in
+            let opens : OpensTo (reverse (k.0 n)) s.2.0 =
+            subst (λ (l : List ℕ). OpensTo (reverse (k.0 n)) l) (sym told ∙ shown_bytes n inside) (k.1 n inside d is) in
+            let journal : IsJournal (header_of K (genesis_id mint) n) (k.0 n) =
+            journal_too K mint n inside submissions submissions E k.0 kept k.2 s.2.2.journal in
+            let one = opens_once_law (header_of K (genesis_id mint) n) (header_of K (genesis_id mint) n) (k.0 n) (E n) s.2.0 s.2.2.limits
+            s.2.2.limits journal s.2.2.journal opens s.2.2.opens in
             ([], one.1));
       }
 
   -- a journal that has grown from the one at entry has grown from that of an image
-  from_entry : (X : ℕ → List Record) → ((n : ℕ) → IsEnd (E n) (X n)) → (n : ℕ) → n < node_count K → OfTold (before n) (λ d. GrewFrom device d (E n) (X n))
+  from_entry : (X : ℕ → List Record) → ((n : ℕ) → IsEnd (E n) (X n)) → (n : ℕ) → n < node_count K
+      → OfTold (before n) (λ d. GrewFrom device d (E n) (X n))
   from_entry X grows n inside d is =
       record {
         image = bytes_of (before n);
@@ -157,11 +168,14 @@ module _ {D : Type 0} (device : Ghosts D) (reads : (d : D) (c : List ℕ) → de
         synced = λ c only. grows n;
       }
 
-  cut_short : (txs : List FullTx) → SurvivesCrashes device now K mint (submissions ++ txs) E → GrowsWhatever device before now K mint (submissions ++ txs) E
+  cut_short : (txs : List FullTx) → SurvivesCrashes device now K mint (submissions ++ txs) E
+      → GrowsWhatever device before now K mint (submissions ++ txs) E
   cut_short txs crashes contents left = let k = crashes contents left in (k.0, k.1, k.2.kept, from_entry k.0 k.2.grows)
 
-  come_through : (txs : List FullTx) (exit : ℕ → List Record) → HoldsEach device now K exit → IsGrown K mint (submissions ++ txs) E exit → GrowsWhatever device before now K mint (submissions ++ txs) E
-  come_through txs exit holds grown contents left = (exit, (λ n inside d is. holds n inside d is (contents n) (left n inside d is)), grown.kept, from_entry exit grown.grows)
+  come_through : (txs : List FullTx) (exit : ℕ → List Record) → HoldsEach device now K exit → IsGrown K mint (submissions ++ txs) E exit
+      → GrowsWhatever device before now K mint (submissions ++ txs) E
+  come_through txs exit holds grown contents left =
+      (exit, (λ n inside d is. holds n inside d is (contents n) (left n inside d is)), grown.kept, from_entry exit grown.grows)
 
   -- no other ledger is made over the one that the disks show
   in_use : (shape : Shape) (other : List Output) → 0 < shape.coordinators → MayBeMade shape other device before → ⊥
@@ -169,11 +183,15 @@ module _ {D : Type 0} (device : Ghosts D) (reads : (d : D) (c : List ℕ) → de
       let first : 0 < node_count K = let limits = within in omega (arith, limits.some_coordinator) in
       let s = shown 0 first in
       let is = s.2.2 in
-      was.unused 0 (omega (arith, some)) s.0 s.1 s.2.0 s.2.1 (has_first (header_of K (genesis_id mint) 0) (E 0) is.opens.rest s.2.0 (whole_fronts (header_of K (genesis_id mint) 0) (E 0) s.2.0 is.limits is.journal is.opens))
+      was.unused 0 (omega (arith, some)) s.0 s.1 s.2.0 s.2.1
+      (has_first (header_of K (genesis_id mint) 0) (E 0) is.opens.rest s.2.0
+      (whole_fronts (header_of K (genesis_id mint) 0) (E 0) s.2.0 is.limits is.journal is.opens))
 
 module _ {D : Type 0} (device : Ghosts D) (reads : (d : D) (c : List ℕ) → device.content d ≡ Some c → device.images d c) (before after : Scene D)
-    (K : Shape) (mint : List Output) (submissions : List FullTx) (E : ℕ → List Record) (within : IsWithinLimits K) (shown : Shows device before.disks.held K (genesis_id mint) E) (kept : KeptJournals K mint submissions E)
-    (words : List Text) (whatever : IsKeptWhatever device before.disks.held K mint submissions) (spared : AreBadOr IsOfNoRack words → (n : ℕ) → after.disks.held n ≡ before.disks.held n) where
+    (K : Shape) (mint : List Output) (submissions : List FullTx) (E : ℕ → List Record) (within : IsWithinLimits K)
+    (shown : Shows device before.disks.held K (genesis_id mint) E) (kept : KeptJournals K mint submissions E)
+    (words : List Text) (whatever : IsKeptWhatever device before.disks.held K mint submissions)
+    (spared : AreBadOr IsOfNoRack words → (n : ℕ) → after.disks.held n ≡ before.disks.held n) where
   abbrev Survived : Type 0
   Survived = Survives device before after words K mint submissions E
 
@@ -181,10 +199,12 @@ module _ {D : Type 0} (device : Ghosts D) (reads : (d : D) (c : List ℕ) → de
   no_more grows = record { txs = []; handed_in = inl refl; grows = grows }
 
   stayed : LeavesNoMore device reads before.disks.held after.disks.held K mint submissions E within shown kept → Survived
-  stayed fewer = no_more (subst (λ (l : List FullTx). GrowsWhatever device before.disks.held after.disks.held K mint l E) (sym (append-nil submissions)) (stays device reads before.disks.held after.disks.held K mint submissions E within shown kept fewer whatever))
+  stayed fewer = no_more (subst (λ (l : List FullTx). GrowsWhatever device before.disks.held after.disks.held K mint l E)
+      (sym (append-nil submissions)) (stays device reads before.disks.held after.disks.held K mint submissions E within shown kept fewer whatever))
 
   same : ((n : ℕ) → after.disks.held n ≡ before.disks.held n) → Survived
-  same e = stayed (λ n inside was told is back c image. let one : was ≡ is = let z : Some was ≡ Some is = sym told ∙ sym (e n) ∙ back in cc in subst (λ (x : D). device.images x c) (sym one) image)
+  same e = stayed (λ n inside was told is back c image. let one : was ≡ is = let z : Some was ≡ Some is = sym told ∙ sym (e n) ∙ back in cc in
+      subst (λ (x : D). device.images x c) (sym one) image)
 
   unchanged : AreUnchanged device before.disks.held after.disks.held → Survived
   unchanged are = stayed (λ n inside was told is back. (are n was told is back).read.leaves)
@@ -193,7 +213,8 @@ module _ {D : Type 0} (device : Ghosts D) (reads : (d : D) (c : List ℕ) → de
   returned are = stayed (λ n inside was told is back. (are n was told is back).read.leaves)
 
   made_none : (shape : Shape) (other : List Output) → 1 ≤ shape.coordinators → MayBeMade shape other device before.disks.held → Survived
-  made_none shape other some was = absurd (in_use device reads before.disks.held after.disks.held K mint submissions E within shown kept shape other (omega (arith, some)) was)
+  made_none shape other some was = absurd (in_use device reads before.disks.held after.disks.held K mint submissions E within shown kept shape other
+      (omega (arith, some)) was)
 
   did_survive : (answer : Answer) (r : Request) → WordsAskFor words r → Did device before after r answer → Survived
   did_survive answer (Init shape mint) asked did = made_none shape did.mint asked.1.1.coordinators.2.some did.was
@@ -202,11 +223,13 @@ module _ {D : Type 0} (device : Ghosts D) (reads : (d : D) (c : List ℕ) → de
       record {
         txs = joined did.handed;
         handed_in = inr (Run verdicts clients options, asked, (did.handed, did.read, refl));
-        grows = come_through device reads before.disks.held after.disks.held K mint submissions E within shown kept (joined did.handed) told.run.exit told.run.disks told.run.grown;
+        grows = come_through device reads before.disks.held after.disks.held K mint submissions E within shown kept (joined did.handed) told.run.exit
+            told.run.disks told.run.grown;
       }
   did_survive answer Recover asked did =
       let told = (did.1 K mint submissions E within shown kept).recovered in
-      let grown : IsGrown K mint (submissions ++ []) E told.exit = subst (λ (l : List FullTx). IsGrown K mint l E told.exit) (sym (append-nil submissions)) told.grown in
+      let grown : IsGrown K mint (submissions ++ []) E told.exit =
+      subst (λ (l : List FullTx). IsGrown K mint l E told.exit) (sym (append-nil submissions)) told.grown in
       no_more (come_through device reads before.disks.held after.disks.held K mint submissions E within shown kept [] told.exit told.disks grown)
   did_survive answer (Status hashes) asked did = unchanged did.back
   did_survive answer (Audit mint clients) asked did = unchanged did.was.unchanged
@@ -220,10 +243,13 @@ module _ {D : Type 0} (device : Ghosts D) (reads : (d : D) (c : List ℕ) → de
   left_survives (Run verdicts clients options) answer asked (handed, read, known, told, inr lane) = record {
     txs = joined handed;
     handed_in = inr (Run verdicts clients options, asked, (handed, read, refl));
-    grows = cut_short device reads before.disks.held after.disks.held K mint submissions E within shown kept (joined handed) (lane.kept K mint submissions E within shown kept).crashes;
+    grows = cut_short device reads before.disks.held after.disks.held K mint submissions E within shown kept (joined handed)
+        (lane.kept K mint submissions E within shown kept).crashes;
   }
   left_survives Recover answer asked (inl back) = returned back
-  left_survives Recover answer asked (inr lane) = no_more (cut_short device reads before.disks.held after.disks.held K mint submissions E within shown kept [] (lane.kept K mint submissions E within shown kept).crashes)
+  left_survives Recover answer asked (inr lane) =
+      no_more (cut_short device reads before.disks.held after.disks.held K mint submissions E within shown kept []
+      (lane.kept K mint submissions E within shown kept).crashes)
   left_survives (Status hashes) answer asked back = returned back
   left_survives (Audit mint clients) answer asked back = returned back
   left_survives (Gen shape seed size options) answer asked left = same (spared (inr (Gen shape seed size options, asked, tt)))

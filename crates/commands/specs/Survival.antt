@@ -19,7 +19,8 @@ use Rattle.cbdc_model.specs.Ranges.{node_count}
 -- whatever a crash leaves of the disks opens to kept journals
 abbrev pub IsKeptWhatever : {D : Type 0} → Ghosts D → (ℕ → Option D) → Shape → List Output → List FullTx → Type 0
 IsKeptWhatever device held K mint submissions =
-    (contents : ℕ → List ℕ) → AreImagesLeft device held K contents → (X : ℕ → List Record) × OpenTo held K contents X × KeptJournals K mint submissions X
+    (contents : ℕ → List ℕ) → AreImagesLeft device held K contents
+    → (X : ℕ → List Record) × OpenTo held K contents X × KeptJournals K mint submissions X
 
 -- the journal has grown at its end from one that a crash might have left of the disk; where nothing was unsynced there, from the one that it told, E
 pub record GrewFrom {D : Type 0} (device : Ghosts D) (d : D) (E J : List Record) : Type 0 where

@@ -1,5 +1,6 @@
 -- What the code makes of the shards' replies is what becomes of the batch by the look-ups of each shard.
-use Rattle.std.proofs.Common.{◌≡◌, ◌≢◌, ◌⊎◌, ℕ, zero, suc, ◌+◌, ◌^◌, ◌<◌, ◌≤◌, max, Bool, true, false, ◌&&◌, List, [], ◌∷◌, length, map, Some, None, refl, ap, sym, ◌∙◌, subst, arith, inl, inr, eqb, eq-eqb}
+use Rattle.std.proofs.Common.{◌≡◌, ◌≢◌, ◌⊎◌, ℕ, zero, suc, ◌+◌, ◌^◌, ◌<◌, ◌≤◌, max, Bool, true, false, ◌&&◌, List, [], ◌∷◌, length, map, Some, None}
+use Rattle.std.proofs.Common.{refl, ap, sym, ◌∙◌, subst, arith, inl, inr, eqb, eq-eqb}
 use Rattle.std.specs.Prelude.{bit_or}
 use Rattle.std.specs.Int.{bit_at}
 use Rattle.std.proofs.lemmas.Nat.Bits.{bit_at_or, bit_at-pow_same, bit_at-pow_other, bit_at-lt, bit_at-zero}
@@ -25,13 +26,15 @@ bit_kept m s i ne = let e = bit_at-pow_other s i ne in omega (arith, bit_at_or m
 stays_set : (shards s m : ℕ) (xs : List Digest) → bit_at m s ≡ 1 → bit_at (marked shards m xs) s ≡ 1
 stays_set shards s m [] set = set
 stays_set shards s m (x ∷ xs) set =
-    stays_set shards s (bit_or m (2 ^ shard_of shards x)) xs (let e = bit_at_or m (2 ^ shard_of shards x) s in let l = bit_at-lt (2 ^ shard_of shards x) s in omega (arith, e, l, set))
+    stays_set shards s (bit_or m (2 ^ shard_of shards x)) xs
+    (let e = bit_at_or m (2 ^ shard_of shards x) s in let l = bit_at-lt (2 ^ shard_of shards x) s in omega (arith, e, l, set))
 
 none_marked : (shards s m : ℕ) (xs : List Digest) → is_empty (on_shard shards s xs) ≡ true → bit_at (marked shards m xs) s ≡ bit_at m s
 none_marked shards s m [] none = refl
 none_marked shards s m (x ∷ xs) none = go (none_marked shards s (bit_or m (2 ^ shard_of shards x)) xs) (eqb_tells (shard_of shards x) s)
   where
-    go : (is_empty (on_shard shards s xs) ≡ true → bit_at (marked shards (bit_or m (2 ^ shard_of shards x)) xs) s ≡ bit_at (bit_or m (2 ^ shard_of shards x)) s)
+    go : (is_empty (on_shard shards s xs) ≡ true → bit_at (marked shards (bit_or m (2 ^ shard_of shards x)) xs) s
+        ≡ bit_at (bit_or m (2 ^ shard_of shards x)) s)
         → ((eqb (shard_of shards x) s ≡ true) × (shard_of shards x ≡ s)) ⊎ ((eqb (shard_of shards x) s ≡ false) × (shard_of shards x ≢ s))
         → bit_at (marked shards (bit_or m (2 ^ shard_of shards x)) xs) s ≡ bit_at m s
     go ih (inl (t, e)) =
@@ -81,7 +84,8 @@ mask_set shards s t some = go (is_empty (on_shard shards s t.inputs)) refl
 part_misses : (shards s k : ℕ) (t : Compact) (ts : List Compact) → misses shards s t ≡ true → part shards s k (t ∷ ts) ≡ part shards s (suc k) ts
 part_misses shards s k t ts e = rw e refl
 
-part_has : (shards s k : ℕ) (t : Compact) (ts : List Compact) → misses shards s t ≡ false → part shards s k (t ∷ ts) ≡ entry_of shards s k t ∷ part shards s (suc k) ts
+part_has : (shards s k : ℕ) (t : Compact) (ts : List Compact) → misses shards s t ≡ false
+    → part shards s k (t ∷ ts) ≡ entry_of shards s k t ∷ part shards s (suc k) ts
 part_has shards s k t ts e = rw e refl
 
 -- no entry has a place below the first
@@ -89,7 +93,8 @@ none_before : (shards s j k : ℕ) (ts : List Compact) (rs : List Reply) → k <
 none_before shards s j k [] rs lt = refl
 none_before shards s j k (t ∷ ts) rs lt = go (λ rs. none_before shards s (suc j) k ts rs (omega arith)) (misses shards s t) refl rs
   where
-    go : ((rs : List Reply) → reply_at (answered_with (part shards s (suc j) ts) rs) k ≡ None) → (b : Bool) → misses shards s t ≡ b → (rs : List Reply) → reply_at (answered_with (part shards s j (t ∷ ts)) rs) k ≡ None
+    go : ((rs : List Reply) → reply_at (answered_with (part shards s (suc j) ts) rs) k ≡ None) → (b : Bool) → misses shards s t ≡ b
+        → (rs : List Reply) → reply_at (answered_with (part shards s j (t ∷ ts)) rs) k ≡ None
     go ih true e rs = rw (part_misses shards s j t ts e) (ih rs)
     go ih false e [] = rw (part_has shards s j t ts e) refl
     go ih false e (r ∷ rs) =
@@ -116,9 +121,11 @@ told_by shards s n locks k (t ∷ ts) rs len at = go (told_by shards s n locks (
         → replied_outcomes s (masks_of shards (t ∷ ts)) rs (outcomes_from locks (suc s) n k (t ∷ ts)) ≡ outcomes_from locks s (suc n) k (t ∷ ts)
     go ih true e rs len at =
         let is : part shards s k (t ∷ ts) ≡ part shards s (suc k) ts = part_misses shards s k t ts e in
-        let here : reply_at (locks s) k ≡ None = at k (omega arith) ∙ ap (λ p. reply_at (answered_with p rs) k) is ∙ none_before shards s (suc k) k ts rs (omega arith) in
+        let here : reply_at (locks s) k ≡ None = at k (omega arith) ∙ ap (λ p. reply_at (answered_with p rs) k) is
+        ∙ none_before shards s (suc k) k ts rs (omega arith) in
         let tail = ih rs (len ∙ ap length is) (λ j le. at j (omega arith) ∙ ap (λ p. reply_at (answered_with p rs) j) is) in
-        told_pass s (mask_of shards t) (masks_of shards ts) rs (outcome locks k (suc s) n) (outcomes_from locks (suc s) n (suc k) ts) (mask_clear shards s t e)
+        told_pass s (mask_of shards t) (masks_of shards ts) rs (outcome locks k (suc s) n) (outcomes_from locks (suc s) n (suc k) ts)
+        (mask_clear shards s t e)
         ∙ ap (λ os. outcome locks k (suc s) n ∷ os) tail
         ∙ ap (λ o. outcome_by o s (outcome locks k (suc s) n) ∷ outcomes_from locks s (suc n) (suc k) ts) (sym here)
     go ih false e [] len at =
@@ -131,10 +138,12 @@ told_by shards s n locks k (t ∷ ts) rs len at = go (told_by shards s n locks (
         let same : eqb k k ≡ true = eq-eqb k k refl in
         let first : reply_at (answered_with (entry_of shards s k t ∷ part shards s (suc k) ts) (r ∷ rs)) k ≡ Some r = rw same refl in
         let here : reply_at (locks s) k ≡ Some r = at k (omega arith) ∙ ap (λ p. reply_at (answered_with p (r ∷ rs)) k) is ∙ first in
-        let later : (j : ℕ) → suc k ≤ j → reply_at (answered_with (entry_of shards s k t ∷ part shards s (suc k) ts) (r ∷ rs)) j ≡ reply_at (answered_with (part shards s (suc k) ts) rs) j =
+        let later : (j : ℕ) → suc k ≤ j → reply_at (answered_with (entry_of shards s k t ∷ part shards s (suc k) ts) (r ∷ rs)) j
+        ≡ reply_at (answered_with (part shards s (suc k) ts) rs) j =
         λ j le. (let f : eqb k j ≡ false = ne_eqb k j (omega arith) in rw f refl) in
         let tail = ih rs (omega arith) (λ j le. at j (omega arith) ∙ ap (λ p. reply_at (answered_with p (r ∷ rs)) j) is ∙ later j le) in
-        told_cons s (mask_of shards t) (masks_of shards ts) r rs (outcome locks k (suc s) n) (outcomes_from locks (suc s) n (suc k) ts) (mask_set shards s t e)
+        told_cons s (mask_of shards t) (masks_of shards ts) r rs (outcome locks k (suc s) n) (outcomes_from locks (suc s) n (suc k) ts)
+        (mask_set shards s t e)
         ∙ ap (λ os. outcome_by (Some r) s (outcome locks k (suc s) n) ∷ os) tail
         ∙ ap (λ o. outcome_by o s (outcome locks k (suc s) n) ∷ outcomes_from locks s (suc n) (suc k) ts) (sym here)
 
@@ -143,7 +152,8 @@ answered_none [] = refl
 answered_none (e ∷ es) = refl
 
 -- a shard that replied nothing
-passed : (locks : ℕ → List Answered) (s n k : ℕ) (ts : List Compact) → locks s ≡ [] → outcomes_from locks (suc s) n k ts ≡ outcomes_from locks s (suc n) k ts
+passed : (locks : ℕ → List Answered) (s n k : ℕ) (ts : List Compact) → locks s ≡ []
+    → outcomes_from locks (suc s) n k ts ≡ outcomes_from locks s (suc n) k ts
 passed locks s n k [] none = refl
 passed locks s n k (t ∷ ts) none =
     let e : reply_at (locks s) k ≡ None = ap (λ es. reply_at es k) none in
@@ -177,7 +187,9 @@ combined_by shards zero s limit locks txs (r ∷ rs) sum rise is len = absurd (o
 combined_by shards (suc n) s limit locks txs [] sum rise is len =
     combined_by shards n (suc s) limit locks txs [] (omega arith) rise (λ i le lt. is i (omega arith) lt) (λ i le lt. len i (omega arith) lt)
     ∙ passed locks s n 0 txs (is s (omega arith) (omega arith) ∙ answered_none (part shards s 0 txs))
-combined_by shards (suc n) s limit locks txs (r ∷ rs) sum rise is len = go (combined_by shards n (suc s) limit locks txs rs (omega arith)) (combined_by shards n (suc s) limit locks txs (r ∷ rs) (omega arith)) (eqb_tells r.shard s)
+combined_by shards (suc n) s limit locks txs (r ∷ rs) sum rise is len =
+    go (combined_by shards n (suc s) limit locks txs rs (omega arith)) (combined_by shards n (suc s) limit locks txs (r ∷ rs) (omega arith))
+    (eqb_tells r.shard s)
   where
     IH : List ShardReplies → Type 0
     IH rs = ShardsRise (suc s) limit rs
@@ -185,7 +197,8 @@ combined_by shards (suc n) s limit locks txs (r ∷ rs) sum rise is len = go (co
         → ((i : ℕ) → suc s ≤ i → i < limit → length (replies_in (replies_at rs i)) ≡ length (part shards i 0 txs))
         → combined_outcomes (masks_of shards txs) rs ≡ outcomes_from locks (suc s) n 0 txs
 
-    go : IH rs → IH (r ∷ rs) → ((eqb r.shard s ≡ true) × (r.shard ≡ s)) ⊎ ((eqb r.shard s ≡ false) × (r.shard ≢ s)) → combined_outcomes (masks_of shards txs) (r ∷ rs) ≡ outcomes_from locks s (suc n) 0 txs
+    go : IH rs → IH (r ∷ rs) → ((eqb r.shard s ≡ true) × (r.shard ≡ s)) ⊎ ((eqb r.shard s ≡ false) × (r.shard ≢ s))
+        → combined_outcomes (masks_of shards txs) (r ∷ rs) ≡ outcomes_from locks s (suc n) 0 txs
     go ih ih' (inl (t, e)) =
         let here : replies_at (r ∷ rs) s ≡ Some r = found_at r rs s e in
         let rise' : ShardsRise (suc s) limit rs = let P : ℕ → Type 0 = λ x. ShardsRise (suc x) limit rs in subst P e rise.2 in
@@ -193,8 +206,10 @@ combined_by shards (suc n) s limit locks txs (r ∷ rs) sum rise is len = go (co
         ih rise'
         (λ i le lt. is i (omega arith) lt ∙ ap (λ x. answered_with (part shards i 0 txs) (replies_in x)) (later_at r rs i (omega arith)))
         (λ i le lt. ap (λ x. length (replies_in x)) (sym (later_at r rs i (omega arith))) ∙ len i (omega arith) lt) in
-        let own : locks s ≡ answered_with (part shards s 0 txs) r.replies = is s (omega arith) (omega arith) ∙ ap (λ x. answered_with (part shards s 0 txs) (replies_in x)) here in
-        let count : length r.replies ≡ length (part shards s 0 txs) = ap (λ x. length (replies_in x)) (sym here) ∙ len s (omega arith) (omega arith) in
+        let own : locks s ≡ answered_with (part shards s 0 txs) r.replies =
+        is s (omega arith) (omega arith) ∙ ap (λ x. answered_with (part shards s 0 txs) (replies_in x)) here in
+        let count : length r.replies ≡ length (part shards s 0 txs) = ap (λ x. length (replies_in x)) (sym here) ∙ len s (omega arith) (omega arith)
+        in
         ap (λ os. replied_outcomes r.shard (masks_of shards txs) r.replies os) rest
         ∙ ap (λ x. replied_outcomes x (masks_of shards txs) r.replies (outcomes_from locks (suc s) n 0 txs)) e
         ∙ told_by shards s n locks 0 txs r.replies count (λ j le. ap (λ es. reply_at es j) own)
@@ -202,14 +217,16 @@ combined_by shards (suc n) s limit locks txs (r ∷ rs) sum rise is len = go (co
         let above : s < r.shard = omega (arith, rise.0) in
         let none : replies_at (r ∷ rs) s ≡ None = none_at r.shard limit s (r ∷ rs) ((omega arith), rise.1, rise.2) above in
         ih' ((omega arith), rise.1, rise.2) (λ i le lt. is i (omega arith) lt) (λ i le lt. len i (omega arith) lt)
-        ∙ passed locks s n 0 txs (is s (omega arith) (omega arith) ∙ ap (λ x. answered_with (part shards s 0 txs) (replies_in x)) none ∙ answered_none (part shards s 0 txs))
+        ∙ passed locks s n 0 txs (is s (omega arith) (omega arith) ∙ ap (λ x. answered_with (part shards s 0 txs) (replies_in x)) none
+        ∙ answered_none (part shards s 0 txs))
 
 all_shards : (locks : ℕ → List Answered) (shards k : ℕ) (ts : List Compact) → outcomes_from locks 0 shards k ts ≡ outcomes locks shards k ts
 all_shards locks shards k [] = refl
 all_shards locks shards k (t ∷ ts) = ap (λ os. outcome locks k 0 shards ∷ os) (all_shards locks shards (suc k) ts)
 
 -- what becomes of a batch
-pub decided_is : (K : Shape) (txs : List Compact) (replies : List ShardReplies) → AreRepliesTo K txs replies → combined_outcomes (masks_of K.shards txs) replies ≡ decided K txs replies
+pub decided_is : (K : Shape) (txs : List Compact) (replies : List ShardReplies) → AreRepliesTo K txs replies
+    → combined_outcomes (masks_of K.shards txs) replies ≡ decided K txs replies
 decided_is K txs replies are =
     let locks : ℕ → List Answered = λ s. answered_with (part K.shards s 0 txs) (replies_in (replies_at replies s)) in
     combined_by K.shards K.shards 0 K.shards locks txs replies (omega arith) are.rising (λ i le lt. refl) (λ i le lt. are.each i lt)
@@ -230,7 +247,8 @@ greatest_below f (suc n) b all =
     let k : f n ≤ b = all n (omega arith) in
     omega arith
 
-latest_below : (low limit n b : ℕ) (f : ℕ → ℕ) (rs : List ShardReplies) → ShardsRise low limit rs → ((i : ℕ) → low ≤ i → f i ≡ reply_stamp (replies_at rs i))
+latest_below : (low limit n b : ℕ) (f : ℕ → ℕ) (rs : List ShardReplies) → ShardsRise low limit rs
+    → ((i : ℕ) → low ≤ i → f i ≡ reply_stamp (replies_at rs i))
     → ((i : ℕ) → i < limit → f i ≤ b) → n ≤ b → latest_reply n rs ≤ b
 latest_below low limit n b f [] rise is all le = le
 latest_below low limit n b f (r ∷ rs) rise is all le =
@@ -243,12 +261,15 @@ stamp_below : (n : ℕ) (rs : List ShardReplies) (i : ℕ) → reply_stamp (repl
 stamp_below n [] i = omega arith
 stamp_below n (r ∷ rs) i = go (stamp_below (max n r.stamp) rs i) (eqb_tells r.shard i)
   where
-    go : reply_stamp (replies_at rs i) ≤ latest_reply (max n r.stamp) rs → ((eqb r.shard i ≡ true) × (r.shard ≡ i)) ⊎ ((eqb r.shard i ≡ false) × (r.shard ≢ i)) → reply_stamp (replies_at (r ∷ rs) i) ≤ latest_reply (max n r.stamp) rs
+    go : reply_stamp (replies_at rs i) ≤ latest_reply (max n r.stamp) rs
+        → ((eqb r.shard i ≡ true) × (r.shard ≡ i)) ⊎ ((eqb r.shard i ≡ false) × (r.shard ≢ i))
+        → reply_stamp (replies_at (r ∷ rs) i) ≤ latest_reply (max n r.stamp) rs
     go ih (inl (t, e)) = rw (found_at r rs i e) (let h = latest-ge (max n r.stamp) rs in omega arith)
     go ih (inr (f, ne)) = rw f ih
 
 -- and its stamp
-pub latest_is : (K : Shape) (n : ℕ) (replies : List ShardReplies) → ShardsRise 0 K.shards replies → latest_reply n replies ≡ max n (reply_cause K replies)
+pub latest_is : (K : Shape) (n : ℕ) (replies : List ShardReplies) → ShardsRise 0 K.shards replies
+    → latest_reply n replies ≡ max n (reply_cause K replies)
 latest_is K n replies rise =
     let f : ℕ → ℕ = λ s. reply_stamp (replies_at replies s) in
     let up : latest_reply n replies ≤ max n (greatest f K.shards) =

@@ -1,5 +1,6 @@
 -- A journal that a coordinator's lanes stand for, and one record more.
-use Rattle.std.proofs.Common.{◌≡◌, ◌≢◌, ◌⊎◌, ℕ, zero, suc, ◌+◌, ◌*◌, ◌/◌, ◌%◌, ◌<◌, true, false, List, [], ◌∷◌, length, get_or, refl, ap, sym, ◌∙◌, subst, arith, inl, inr, eqb, eq-eqb, mod-lt}
+use Rattle.std.proofs.Common.{◌≡◌, ◌≢◌, ◌⊎◌, ℕ, zero, suc, ◌+◌, ◌*◌, ◌/◌, ◌%◌, ◌<◌, true, false, List, [], ◌∷◌, length, get_or, refl, ap, sym, ◌∙◌}
+use Rattle.std.proofs.Common.{subst, arith, inl, inr, eqb, eq-eqb, mod-lt}
 use Rattle.std.proofs.lemmas.List.{get_or-set_same, get_or-set_other}
 use Rattle.std.proofs.lemmas.Bool.Decides.{eqb_tells}
 use Rattle.std.proofs.lemmas.Bool.{ne_eqb}
@@ -9,7 +10,8 @@ use Rattle.cbdc_model.specs.Records.{Header, Record, Batch, Compact, Outcome, sa
 use Rattle.cbdc_model.specs.Slots.{Slot, slot, Idle, InPrepare, InCommit, InDiscard}
 use Rattle.cbdc_model.specs.Due.{open_batch}
 use Rattle.coord_core.specs.Masks.{masks_of}
-use Rattle.coord_core.specs.Lanes.{CoordOf, CoordLaneOf, no_lane, IsOwnLane, coord_lane, with_lane, with_prepared, CoordTakes, CoordAdmits, IsCoordWhole, IsIdleLane, IsFreshCoord}
+use Rattle.coord_core.specs.Lanes.{CoordOf, CoordLaneOf, no_lane, IsOwnLane, coord_lane, with_lane, with_prepared, CoordTakes, CoordAdmits}
+use Rattle.coord_core.specs.Lanes.{IsCoordWhole, IsIdleLane, IsFreshCoord}
 use Rattle.coord_core.specs.Stands.{CoordStands}
 
 -- two lanes of one coordinator with one place are one lane
@@ -21,7 +23,8 @@ pub lane_set : (c : CoordOf) (lane : ℕ) (l : CoordLaneOf) → lane % c.header.
 lane_set c lane l lt = get_or-set_same c.lanes (lane % c.header.shape.lanes) l no_lane lt
 
 -- and another one
-pub lane_kept : (c : CoordOf) (lane q : ℕ) (l : CoordLaneOf) → IsOwnLane c.header lane → IsOwnLane c.header q → q ≢ lane → coord_lane (with_lane c lane l) q ≡ coord_lane c q
+pub lane_kept : (c : CoordOf) (lane q : ℕ) (l : CoordLaneOf) → IsOwnLane c.header lane → IsOwnLane c.header q → q ≢ lane
+    → coord_lane (with_lane c lane l) q ≡ coord_lane c q
 lane_kept c lane q l own own' ne =
     get_or-set_other c.lanes (lane % c.header.shape.lanes) (q % c.header.shape.lanes) l no_lane
     (λ e. ne (same_lane c.header.node c.header.shape.lanes q lane own' own e))
@@ -34,13 +37,15 @@ pub record Sets (past : List Record) (r : Record) (lane : ℕ) (s : Slot) : Type
 eqb-self : (n : ℕ) → eqb n n ≡ true
 eqb-self n = eq-eqb n n refl
 
-sets_prepare : (past : List Record) (stamp : ℕ) (b : Batch) (txs : List Compact) → Sets past (Prepare stamp b txs) b.lane (record { number = b.number; phase = InPrepare })
+sets_prepare : (past : List Record) (stamp : ℕ) (b : Batch) (txs : List Compact)
+    → Sets past (Prepare stamp b txs) b.lane (record { number = b.number; phase = InPrepare })
 sets_prepare past stamp b txs = record {
   own = rw (eqb-self b.lane) refl;
   other = λ q ne. let e : eqb b.lane q ≡ false = ne_eqb b.lane q (λ h. ne (sym h)) in rw e refl;
 }
 
-sets_commit : (past : List Record) (stamp : ℕ) (b : Batch) (os : List Outcome) → Sets past (Commit stamp b os) b.lane (record { number = b.number; phase = InCommit })
+sets_commit : (past : List Record) (stamp : ℕ) (b : Batch) (os : List Outcome)
+    → Sets past (Commit stamp b os) b.lane (record { number = b.number; phase = InCommit })
 sets_commit past stamp b os = record {
   own = rw (eqb-self b.lane) refl;
   other = λ q ne. let e : eqb b.lane q ≡ false = ne_eqb b.lane q (λ h. ne (sym h)) in rw e refl;
@@ -76,7 +81,8 @@ slots_set c d past r stamp lane l is stands own lt sets q own' =
 masks_kept : (c d : CoordOf) (past : List Record) (r : Record) (stamp lane : ℕ) (l : CoordLaneOf)
     → d ≡ record (with_lane c lane l) { last = stamp } → CoordStands c past → IsOwnLane c.header lane
     → Sets past r lane l.slot → ((b : Batch) → txs_of (r ∷ past) b ≡ txs_of past b) → (l.slot.phase ≡ InPrepare → ⊥)
-    → (q : ℕ) → IsOwnLane d.header q → (slot (r ∷ past) q).phase ≡ InPrepare → (coord_lane d q).masks ≡ masks_of d.header.shape.shards (txs_of (r ∷ past) (open_batch (r ∷ past) q))
+    → (q : ℕ) → IsOwnLane d.header q → (slot (r ∷ past) q).phase ≡ InPrepare
+    → (coord_lane d q).masks ≡ masks_of d.header.shape.shards (txs_of (r ∷ past) (open_batch (r ∷ past) q))
 masks_kept c d past r stamp lane l is stands own sets same never q own' phase =
     rw is (go (eqb_tells q lane))
   where
@@ -115,9 +121,11 @@ prepare_masks c d past stamp b txs is stands own lt q own' phase =
     here = rw (eqb-self b.lane) (rw (eqb-self b.number) refl)
 
     go : ((eqb q b.lane ≡ true) × (q ≡ b.lane)) ⊎ ((eqb q b.lane ≡ false) × (q ≢ b.lane))
-        → (coord_lane (with_prepared c stamp b txs) q).masks ≡ masks_of c.header.shape.shards (txs_of (Prepare stamp b txs ∷ past) (open_batch (Prepare stamp b txs ∷ past) q))
+        → (coord_lane (with_prepared c stamp b txs) q).masks
+        ≡ masks_of c.header.shape.shards (txs_of (Prepare stamp b txs ∷ past) (open_batch (Prepare stamp b txs ∷ past) q))
     go (inl (t, e)) =
-        let P : ℕ → Type 0 = λ x. (coord_lane (with_prepared c stamp b txs) x).masks ≡ masks_of c.header.shape.shards (txs_of (Prepare stamp b txs ∷ past) (open_batch (Prepare stamp b txs ∷ past) x)) in
+        let P : ℕ → Type 0 = λ x. (coord_lane (with_prepared c stamp b txs) x).masks
+        ≡ masks_of c.header.shape.shards (txs_of (Prepare stamp b txs ∷ past) (open_batch (Prepare stamp b txs ∷ past) x)) in
         subst P (sym e) (ap (λ x. x.masks) (lane_set c b.lane l lt) ∙ ap (masks_of c.header.shape.shards) (sym here))
     go (inr (f, ne)) =
         ap (λ x. x.masks) (lane_kept c b.lane q l own own'' ne)
@@ -129,7 +137,8 @@ prepare_masks c d past stamp b txs is stands own lt q own' phase =
         passes n = let e : eqb b.lane q ≡ false = ne_eqb b.lane q (λ h. ne (sym h)) in rw e refl
 
 -- one record more
-pub stands_next : (c d : CoordOf) (past : List Record) (r : Record) → IsCoordWhole c → CoordStands c past → CoordAdmits c r → CoordTakes c d r → CoordStands d (r ∷ past)
+pub stands_next : (c d : CoordOf) (past : List Record) (r : Record) → IsCoordWhole c → CoordStands c past → CoordAdmits c r → CoordTakes c d r
+    → CoordStands d (r ∷ past)
 stands_next c d past (Prepare stamp b txs) whole stands next takes = record {
   last = ap (λ x. x.last) takes;
   slots = slots_set c d past (Prepare stamp b txs) stamp b.lane l takes stands next.0.0.0 lt (sets_prepare past stamp b txs);

@@ -1,5 +1,6 @@
 -- One step of a walk over a list, and of what is computed on the way.
-use Rattle.std.proofs.Common.{◌≡◌, ℕ, suc, ◌+◌, ◌^◌, ◌<◌, ◌≤◌, max, List, [], ◌∷◌, ◌++◌, length, get_or, set, take, drop, refl, ap, sym, ◌∙◌, subst, arith, add-one, drop-cons, append_assoc, Some, true, false}
+use Rattle.std.proofs.Common.{◌≡◌, ℕ, suc, ◌+◌, ◌^◌, ◌<◌, ◌≤◌, max, List, [], ◌∷◌, ◌++◌, length, get_or, set, take, drop, refl, ap, sym, ◌∙◌, subst}
+use Rattle.std.proofs.Common.{arith, add-one, drop-cons, append_assoc, Some, true, false}
 use Rattle.std.specs.Prelude.{bit_or, if◌then◌else◌, ◌==◌}
 use Rattle.std.proofs.lemmas.Bool.{ne_eqb}
 use Rattle.std.specs.Int.{bit_at}
@@ -52,7 +53,8 @@ told_pass s m ms (r ∷ rs) o os clear = rw (ne_eqb _ _ clear) refl
 pub told_takes : (s k j : ℕ) (ms : List ℕ) (rs : List Reply) (os : List Outcome) (r : Reply) (o : Outcome)
     → k < length ms → k < length os → j < length rs → bit_at (get_or ms k 0) s ≡ 1
     → r ≡ get_or rs j r → o ≡ get_or os k o
-    → take (k + 1) (set os k (outcome_by (Some r) s o)) ++ replied_outcomes s (drop (k + 1) ms) (drop (j + 1) rs) (drop (k + 1) (set os k (outcome_by (Some r) s o)))
+    → take (k + 1) (set os k (outcome_by (Some r) s o))
+    ++ replied_outcomes s (drop (k + 1) ms) (drop (j + 1) rs) (drop (k + 1) (set os k (outcome_by (Some r) s o)))
     ≡ take k os ++ replied_outcomes s (drop k ms) (drop j rs) (drop k os)
 told_takes s k j ms rs os r o kms kos jrs bit r-is o-is =
     rw (take_more_set os k (outcome_by (Some r) s o) kos)
@@ -66,7 +68,8 @@ told_takes s k j ms rs os r o kms kos jrs bit r-is o-is =
 -- it doesn't
 pub told_passes : (s k j : ℕ) (ms : List ℕ) (rs : List Reply) (os : List Outcome) (d : Outcome)
     → k < length ms → k < length os → (bit_at (get_or ms k 0) s ≡ 1 → ⊥)
-    → take (k + 1) os ++ replied_outcomes s (drop (k + 1) ms) (drop j rs) (drop (k + 1) os) ≡ take k os ++ replied_outcomes s (drop k ms) (drop j rs) (drop k os)
+    → take (k + 1) os ++ replied_outcomes s (drop (k + 1) ms) (drop j rs) (drop (k + 1) os)
+    ≡ take k os ++ replied_outcomes s (drop k ms) (drop j rs) (drop k os)
 told_passes s k j ms rs os d kms kos clear =
     rw (take_more os k d kos)
     (rw (rest_at ms k 0 kms)
@@ -76,14 +79,16 @@ told_passes s k j ms rs os d kms kos clear =
 
 -- no reply is left
 pub told_ends : (s k j : ℕ) (ms : List ℕ) (rs : List Reply) (os : List Outcome) → length rs ≤ j
-    → take (k + 1) os ++ replied_outcomes s (drop (k + 1) ms) (drop j rs) (drop (k + 1) os) ≡ take k os ++ replied_outcomes s (drop k ms) (drop j rs) (drop k os)
+    → take (k + 1) os ++ replied_outcomes s (drop (k + 1) ms) (drop j rs) (drop (k + 1) os)
+    ≡ take k os ++ replied_outcomes s (drop k ms) (drop j rs) (drop k os)
 told_ends s k j ms rs os past =
     rw (drop_all j rs past)
     (rw (told_none s (drop (k + 1) ms) (drop (k + 1) os))
     (rw (told_none s (drop k ms) (drop k os))
     (take-append-drop (k + 1) os ∙ sym (take-append-drop k os))))
 
-pub rises_at : (low limit : ℕ) (rs : List ShardReplies) (i : ℕ) (d : ShardReplies) → ShardsRise low limit rs → i < length rs → (get_or rs i d).shard < limit
+pub rises_at : (low limit : ℕ) (rs : List ShardReplies) (i : ℕ) (d : ShardReplies) → ShardsRise low limit rs → i < length rs
+    → (get_or rs i d).shard < limit
 rises_at low limit [] i d h lt = absurd (omega arith)
 rises_at low limit (r ∷ rs) zero d h lt = h.1
 rises_at low limit (r ∷ rs) (suc i) d h lt = rises_at (suc r.shard) limit rs i d h.2 (omega arith)
@@ -101,24 +106,29 @@ pub masks_step : (shards : ℕ) (txs : List Compact) (i : ℕ) (t : Compact) (ms
     → ms ≡ masks_of shards (take i txs) → ms' ≡ ms ++ mask_of shards t ∷ [] → ms' ≡ masks_of shards (take (i + 1) txs)
 masks_step shards txs i t ms ms' lt is old more = more ∙ ap (λ x. x ++ mask_of shards t ∷ []) old ∙ grow txs i t lt is
   where
-    grow : (txs : List Compact) (i : ℕ) (t : Compact) → i < length txs → t ≡ get_or txs i t → masks_of shards (take i txs) ++ mask_of shards t ∷ [] ≡ masks_of shards (take (i + 1) txs)
+    grow : (txs : List Compact) (i : ℕ) (t : Compact) → i < length txs → t ≡ get_or txs i t
+        → masks_of shards (take i txs) ++ mask_of shards t ∷ [] ≡ masks_of shards (take (i + 1) txs)
     grow [] i t lt is = absurd (omega arith)
     grow (u ∷ us) zero t lt is = ap (λ x. mask_of shards x ∷ []) is
-    grow (u ∷ us) (suc i) t lt is = let e : suc i + 1 ≡ suc (i + 1) = omega arith in rw e (ap (λ x. mask_of shards u ∷ x) (grow us i t (omega arith) is))
+    grow (u ∷ us) (suc i) t lt is = let e : suc i + 1 ≡ suc (i + 1) = omega arith in
+        rw e (ap (λ x. mask_of shards u ∷ x) (grow us i t (omega arith) is))
 
-pub took_one : {A : Type 0} (xs : List A) (i : ℕ) (x : A) (ys zs : List A) → i < length xs → x ≡ get_or xs i x → ys ≡ take i xs → zs ≡ ys ++ x ∷ [] → zs ≡ take (i + 1) xs
+pub took_one : {A : Type 0} (xs : List A) (i : ℕ) (x : A) (ys zs : List A) → i < length xs → x ≡ get_or xs i x → ys ≡ take i xs → zs ≡ ys ++ x ∷ []
+    → zs ≡ take (i + 1) xs
 took_one xs i x ys zs lt is old more = more ∙ ap (λ w. w ++ x ∷ []) old ∙ ap (λ w. take i xs ++ w ∷ []) is ∙ sym (take_more xs i x lt)
 
 pub latest-ge : (n : ℕ) (rs : List ShardReplies) → n ≤ latest_reply n rs
 latest-ge n [] = omega arith
 latest-ge n (r ∷ rs) = omega (arith, latest-ge (max n r.stamp) rs)
 
-pub length-told : (s : ℕ) (ms : List ℕ) (rs : List Reply) (os : List Outcome) → length os ≡ length ms → length (replied_outcomes s ms rs os) ≡ length ms
+pub length-told : (s : ℕ) (ms : List ℕ) (rs : List Reply) (os : List Outcome) → length os ≡ length ms
+    → length (replied_outcomes s ms rs os) ≡ length ms
 length-told s [] rs os same = same
 length-told s (m ∷ ms) rs [] same = same
 length-told s (m ∷ ms) [] (o ∷ os) same = same
 length-told s (m ∷ ms) (r ∷ rs) (o ∷ os) same =
-    elim (bit_at m s == 1) as (λ b. length (if b then outcome_by (Some r) s o ∷ replied_outcomes s ms rs os else o ∷ replied_outcomes s ms (r ∷ rs) os) ≡ suc (length ms)) [
+    elim (bit_at m s == 1) as (λ b. length (if b then outcome_by (Some r) s o ∷ replied_outcomes s ms rs os
+    else o ∷ replied_outcomes s ms (r ∷ rs) os) ≡ suc (length ms)) [
       | true ↦ ap (λ n. suc n) (length-told s ms rs os (omega arith))
       | false ↦ ap (λ n. suc n) (length-told s ms (r ∷ rs) os (omega arith))
     ]

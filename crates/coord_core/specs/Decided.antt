@@ -12,7 +12,8 @@ abbrev pub replied_outcomes : ℕ → List ℕ → List Reply → List Outcome �
 replied_outcomes s [] rs os = os
 replied_outcomes s (m ∷ ms) rs [] = []
 replied_outcomes s (m ∷ ms) [] (o ∷ os) = o ∷ os
-replied_outcomes s (m ∷ ms) (r ∷ rs) (o ∷ os) = if bit_at m s == 1 then outcome_by (Some r) s o ∷ replied_outcomes s ms rs os else o ∷ replied_outcomes s ms (r ∷ rs) os
+replied_outcomes s (m ∷ ms) (r ∷ rs) (o ∷ os) = if bit_at m s == 1 then outcome_by (Some r) s o ∷ replied_outcomes s ms rs os
+    else o ∷ replied_outcomes s ms (r ∷ rs) os
 
 -- the outcomes by all shards' replies, those of the least shard last
 abbrev pub combined_outcomes : List ℕ → List ShardReplies → List Outcome

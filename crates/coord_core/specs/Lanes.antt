@@ -67,7 +67,8 @@ with_slot c stamp lane s = record (with_lane c lane (record (coord_lane c lane) 
 -- the coordinator with a batch begun
 abbrev pub with_prepared : CoordOf → ℕ → Batch → List Compact → CoordOf
 with_prepared c stamp b txs =
-    record (with_lane c b.lane (record (coord_lane c b.lane) { slot = record { number = b.number; phase = InPrepare }; masks = masks_of c.header.shape.shards txs })) { last = stamp }
+    record (with_lane c b.lane (record (coord_lane c b.lane)
+    { slot = record { number = b.number; phase = InPrepare }; masks = masks_of c.header.shape.shards txs })) { last = stamp }
 
 -- the coordinator has taken the record in
 abbrev pub CoordTakes : CoordOf → CoordOf → Record → Type 0
@@ -154,7 +155,8 @@ HasNoLessRoom old new = (lane : ℕ) → (coord_lane old lane).room ≤ (coord_l
 
 -- the other lanes have as much room
 abbrev pub KeepsOtherRooms : CoordOf → CoordOf → ℕ → Type 0
-KeepsOtherRooms old new lane = (other : ℕ) → other % old.header.shape.lanes ≢ lane % old.header.shape.lanes → (coord_lane new other).room ≡ (coord_lane old other).room
+KeepsOtherRooms old new lane = (other : ℕ) → other % old.header.shape.lanes ≢ lane % old.header.shape.lanes
+    → (coord_lane new other).room ≡ (coord_lane old other).room
 
 -- where the lane's batch is prepared, there is room for its outcomes
 abbrev pub IsRoomed : CoordLaneOf → Type 0

@@ -35,10 +35,12 @@ module _ (h : Header) (lane : ℕ) (inside : h.node < h.shape.coordinators) (oth
   no_batch (other ∷ (q ∷ past)) j = absurd (let shard = j.0.0.2 in omega (arith, shard, inside))
 
 -- what the lanes say of a lane is what the journal says
-pub slot_there : (c : CoordOf) (h : Header) (J : List Record) (lane : ℕ) (s : Slot) → c.header ≡ h → c.header.node < c.header.shape.coordinators → CoordStands c J → IsJournal h J
+pub slot_there : (c : CoordOf) (h : Header) (J : List Record) (lane : ℕ) (s : Slot) → c.header ≡ h → c.header.node < c.header.shape.coordinators
+    → CoordStands c J → IsJournal h J
     → (IsOwnLane c.header lane → s ≡ (coord_lane c lane).slot) → (home_of c.header.shape lane ≢ c.header.node → s ≡ no_lane.slot) → s ≡ slot J lane
 slot_there c h J lane s same inside stands journal own other = go (eqb_tells (home_of c.header.shape lane) c.header.node)
   where
-    go : (((home_of c.header.shape lane == c.header.node) ≡ true) × (home_of c.header.shape lane ≡ c.header.node)) ⊎ (((home_of c.header.shape lane == c.header.node) ≡ false) × (home_of c.header.shape lane ≢ c.header.node)) → s ≡ slot J lane
+    go : (((home_of c.header.shape lane == c.header.node) ≡ true) × (home_of c.header.shape lane ≡ c.header.node))
+        ⊎ (((home_of c.header.shape lane == c.header.node) ≡ false) × (home_of c.header.shape lane ≢ c.header.node)) → s ≡ slot J lane
     go (inl (b, is)) = own is ∙ stands.slots lane is
     go (inr (b, apart)) = other apart ∙ sym (no_batch c.header lane inside apart J (subst (λ x. IsJournal x J) (sym same) journal))

@@ -13,8 +13,11 @@ use Rattle.coord_core.proofs.Kept.{kept_is}
 use Rattle.coord_log.specs.Inside.{StandsOn}
 
 -- what the journal takes, with what is kept for the open batches, lies within the capacity
-pub journal_has_room : {D : Type 0} {G : Ghosts D} (n : Node CoordOf D G) → StandsOn n → IsCoordWhole n.core → used_of (journal_of n) + kept_room n.log.header.shape (journal_of n) ≤ G.limit (disk_of n.log.journal)
+pub journal_has_room : {D : Type 0} {G : Ghosts D} (n : Node CoordOf D G) → StandsOn n → IsCoordWhole n.core
+    → used_of (journal_of n) + kept_room n.log.header.shape (journal_of n) ≤ G.limit (disk_of n.log.journal)
 journal_has_room n on whole =
-    let j : IsJournal n.core.header (journal_of n) = let P : Header → Type 0 = λ h. IsJournal h (journal_of n) in subst P (sym on.header) on.node.journal in
-    let kept : kept_of n.core.lanes ≡ kept_room n.log.header.shape (journal_of n) = kept_is n.core (journal_of n) whole on.stands j ∙ ap (λ h. kept_room h.shape (journal_of n)) on.header in
+    let j : IsJournal n.core.header (journal_of n) = let P : Header
+    → Type 0 = λ h. IsJournal h (journal_of n) in subst P (sym on.header) on.node.journal in
+    let kept : kept_of n.core.lanes ≡ kept_room n.log.header.shape (journal_of n) =
+    kept_is n.core (journal_of n) whole on.stands j ∙ ap (λ h. kept_room h.shape (journal_of n)) on.header in
     omega (arith, on.free, kept)

@@ -17,11 +17,14 @@ use Rattle.node_journal.proofs.Sound.{reserved}
 use Rattle.coord_log.specs.Inside.{largest, IsCoordSound}
 
 -- with memory for the records that are still to come
-pub opened_sound : {D : Type 0} {G : Ghosts D} (n : Node CoordOf D G) (l : RecordLog D G) → IsOpened (λ x. x.header) IsRoomyFor IsCoord n → IsCoordWhole n.core → IsUntouched n.log l
-    → l.records.items ≡ n.log.records.items → l.header ≡ n.log.header → HasLogRoom l (ahead_of n.core.lanes) largest → IsCoordSound {D = D} {G = G} (record { log = l; core = n.core; opened = n.opened; flight = n.flight })
+pub opened_sound : {D : Type 0} {G : Ghosts D} (n : Node CoordOf D G) (l : RecordLog D G) → IsOpened (λ x. x.header) IsRoomyFor IsCoord n
+    → IsCoordWhole n.core → IsUntouched n.log l
+    → l.records.items ≡ n.log.records.items → l.header ≡ n.log.header → HasLogRoom l (ahead_of n.core.lanes) largest
+    → IsCoordSound {D = D} {G = G} (record { log = l; core = n.core; opened = n.opened; flight = n.flight })
 opened_sound {D} {G} n l is whole untouched records header memory =
     let there : IsJournal n.core.header (journal_of n) = subst (λ (h : Header). IsJournal h (journal_of n)) (sym is.header) is.node.journal in
-    let kept : kept_of n.core.lanes ≡ kept_room n.log.header.shape (journal_of n) = kept_is n.core (journal_of n) whole is.stands.stands there ∙ ap (λ (h : Header). kept_room h.shape (journal_of n)) is.header in
+    let kept : kept_of n.core.lanes ≡ kept_room n.log.header.shape (journal_of n) =
+    kept_is n.core (journal_of n) whole is.stands.stands there ∙ ap (λ (h : Header). kept_room h.shape (journal_of n)) is.header in
     let limit = ap G.limit untouched.disk in
     let used = is.node.used (is.node.unbroken is.landed) in
     record {

@@ -38,7 +38,8 @@ module _ {D : Type 0} {G : Ghosts D} where
       (due.grammar, subst F due.on.header (follows_next n.core (journal_of n) r due.on.stands due.next))
 
   -- the record was written
-  pub sound_after : (old new : Node CoordOf D G) (r : Record) → IsDue old r → IsNode IsCoord new → HasKept old.log new.log r → CoordHasTaken old.core new.core r → new.core.header ≡ old.core.header → IsCoordSound new
+  pub sound_after : (old new : Node CoordOf D G) (r : Record) → IsDue old r → IsNode IsCoord new → HasKept old.log new.log r
+      → CoordHasTaken old.core new.core r → new.core.header ≡ old.core.header → IsCoordSound new
   sound_after old new r due is kept taken same =
       let J : journal_of new ≡ r ∷ journal_of old = pushed old.log new.log r kept in
       let size : 9 + length (body_of r) ≡ size_of r = size_is old.log.header r due.on.node.limits due.grammar in
@@ -60,7 +61,8 @@ module _ {D : Type 0} {G : Ghosts D} where
       }
 
   -- the disk failed at it
-  pub sound_broken : (old new : Node CoordOf D G) (r : Record) → IsDue old r → IsNode IsCoord new → HasBroken old.log new.log → new.core ≡ old.core → IsCoordSound new
+  pub sound_broken : (old new : Node CoordOf D G) (r : Record) → IsDue old r → IsNode IsCoord new → HasBroken old.log new.log → new.core ≡ old.core
+      → IsCoordSound new
   sound_broken old new r due is failed same =
       let J : journal_of new ≡ journal_of old = ap reverse failed.records in
       record {
@@ -74,7 +76,8 @@ module _ {D : Type 0} {G : Ghosts D} where
       }
 
   -- more room, and nothing else
-  pub stands_on : (n : Node CoordOf D G) (l : RecordLog D G) (c : CoordOf) → IsUntouched n.log l → l.records.items ≡ n.log.records.items → l.header ≡ n.log.header → IsSameButRoom n.core c → StandsOn n
+  pub stands_on : (n : Node CoordOf D G) (l : RecordLog D G) (c : CoordOf) → IsUntouched n.log l → l.records.items ≡ n.log.records.items
+      → l.header ≡ n.log.header → IsSameButRoom n.core c → StandsOn n
       → StandsOn {D = D} {G = G} (record { log = l; core = c; opened = n.opened; flight = n.flight })
   stands_on n l c untouched records header same on = record {
     node = reserved IsCoord n l c on.node untouched records header;

@@ -12,4 +12,5 @@ HasShortLists t = (length t.inputs ≤ 255) × (length t.outputs ≤ 255)
 
 -- what is owed to replies that make this Commit: it is written, if its stamp is within its bound
 abbrev pub commit_due : Shape → List ShardReplies → Record → Option ℕ → List Record → Due ℕ
-commit_due K replies r broken J = unless_broken broken (if_early last_late (next_stamp J (reply_cause K replies)) (Writes (next_stamp J (reply_cause K replies)) r))
+commit_due K replies r broken J = unless_broken broken
+    (if_early last_late (next_stamp J (reply_cause K replies)) (Writes (next_stamp J (reply_cause K replies)) r))

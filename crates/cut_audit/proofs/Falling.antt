@@ -1,10 +1,12 @@
 -- Along a journal, the newest record first, stamps fall; so what came behind a list that was taken of it has greater stamps.
-use Rattle.std.proofs.Common.{◌≡◌, ℕ, ◌+◌, ◌<◌, ◌≤◌, Bool, true, nat_lt, if◌then◌else◌, List, [], ◌∷◌, ◌++◌, length, reverse, refl, sym, ap, ◌∙◌, subst, arith}
+use Rattle.std.proofs.Common.{◌≡◌, ℕ, ◌+◌, ◌<◌, ◌≤◌, Bool, true, nat_lt, if◌then◌else◌, List, [], ◌∷◌, ◌++◌, length, reverse, refl, sym, ap, ◌∙◌}
+use Rattle.std.proofs.Common.{subst, arith}
 use mathlib.Core.List.{reverse_aux}
 use Rattle.std.proofs.lemmas.Bool.{cases_lt}
 use Rattle.std.proofs.lemmas.List.Elements.{All-nil, All-cons, All-weaker}
 use Rattle.std.proofs.Common.{inl, inr}
-use Rattle.cbdc_model.specs.Records.{Shape, Digest, Header, Compact, Record, Row, journal, stamp_of, last_stamp, Genesis, Lock, Finish, Forget, Start, Prepare, Commit, Discard, Done}
+use Rattle.cbdc_model.specs.Records.{Shape, Digest, Header, Compact, Record, Row, journal, stamp_of, last_stamp, Genesis, Lock, Finish, Forget, Start}
+use Rattle.cbdc_model.specs.Records.{Prepare, Commit, Discard, Done}
 use Rattle.cbdc_model.specs.After.{After}
 use Rattle.cbdc_model.specs.History.{Minted, header_of, first_rows, IsSteady}
 use Rattle.ledger_laws.proofs.FirstJournals.{first_is, first_beyond}
@@ -28,7 +30,8 @@ falls_end (r ∷ more) L f = falls_end more L (falls_rest r (more ++ L) f)
 -- the other way round they rise
 above_rest : (r q : Record) (later : List Record) → stamp_of r < stamp_of q → Rises (q ∷ later) → Rises (r ∷ (q ∷ later))
 above_rest r q later lt h = (
-  All-cons (λ p. stamp_of r < stamp_of p) q later lt (All-weaker (λ p. stamp_of q < stamp_of p) (λ p. stamp_of r < stamp_of p) (λ p m. omega arith) later h.0),
+  All-cons (λ p. stamp_of r < stamp_of p) q later lt
+      (All-weaker (λ p. stamp_of q < stamp_of p) (λ p. stamp_of r < stamp_of p) (λ p m. omega arith) later h.0),
   h,
 )
 
@@ -51,7 +54,8 @@ on_top : (h : Header) (past : List Record) (r : Record) → After h past r → F
 on_top h [] r a f = tt
 on_top h (q ∷ past) r a f = (after_falls h q past r a, f)
 
-inside : (K : Shape) (id : Digest) (node : ℕ) (past : List Record) (r : Record) → After (header_of K id node) past r → node < K.coordinators + K.shards
+inside : (K : Shape) (id : Digest) (node : ℕ) (past : List Record) (r : Record) → After (header_of K id node) past r
+    → node < K.coordinators + K.shards
 inside K id node past (Genesis header hs) a = a.0.2.1
 inside K id node past (Lock stamp b es) a = a.0.2.1
 inside K id node past (Finish stamp b ds) a = a.0.2.1

@@ -26,7 +26,8 @@ nil_end : (more L : List Record) → [] ≡ more ++ L → L ≡ []
 nil_end [] L e = sym e
 nil_end (r ∷ more) L e = absurd (let z : [] ≡ r ∷ (more ++ L) = e in cc)
 
-module _ (K : Shape) (mint : List Output) (txs : List FullTx) (X L : ℕ → List Record) (s : ℕ) (rows : List Row) (kept : KeptJournals K mint txs X) (fronts : AreFronts K X L)
+module _ (K : Shape) (mint : List Output) (txs : List FullTx) (X L : ℕ → List Record) (s : ℕ) (rows : List Row) (kept : KeptJournals K mint txs X)
+    (fronts : AreFronts K X L)
     (low : (n : ℕ) → n < node_count K → s ≤ last_stamp (L n)) (c : IsCutOf L s rows) where
   abbrev first : List Row
   first = first_rows K (minted mint)
@@ -42,7 +43,8 @@ module _ (K : Shape) (mint : List Output) (txs : List FullTx) (X L : ℕ → Lis
   of_journal n =
       journal-append n older first ∙ ap (λ J. J ++ journal n first) (journal_up_to s n kept.later)
       ∙ ap (λ J. up_to s (journal n kept.later) ++ J) (ap (journal n) (sym (first_low s K (minted mint))) ∙ journal_up_to s n first)
-      ∙ sym (up_to-append s (journal n kept.later) (journal n first)) ∙ ap (up_to s) (sym (journal-append n kept.later first) ∙ kept.history.journals_are n)
+      ∙ sym (up_to-append s (journal n kept.later) (journal n first))
+      ∙ ap (up_to s) (sym (journal-append n kept.later first) ∙ kept.history.journals_are n)
 
   -- and those of the list that was taken of it
   of_list : (n : ℕ) → up_to s (X n) ≡ up_to s (L n)
@@ -53,7 +55,8 @@ module _ (K : Shape) (mint : List Output) (txs : List FullTx) (X L : ℕ → Lis
             let f : Falls (X n) = subst Falls (kept.history.journals_are n) (falls K (minted mint) (IsProperCompact txs) kept.later kept.kept n) in
             ap (up_to s) e.1 ∙ not_in_cut s e.0 (L n) (subst Falls e.1 f) (fronts.some n lt) (low n lt)
         | inr le ↦
-            let none : X n ≡ [] = sym (kept.history.journals_are n) ∙ nothing_beyond K (minted mint) (IsProperCompact txs) kept.later kept.kept n le in
+            let none : X n ≡ [] = sym (kept.history.journals_are n) ∙ nothing_beyond K (minted mint) (IsProperCompact txs) kept.later kept.kept n le
+            in
             ap (up_to s) (none ∙ sym (nil_end e.0 (L n) (sym none ∙ e.1)))
       ]
 

@@ -1,5 +1,6 @@
 -- The least of the last stamps, list by list, and the places of the rows up to a stamp, place by place.
-use Rattle.std.proofs.Common.{◌≡◌, ℕ, ◌+◌, ◌<◌, ◌≤◌, Bool, true, false, nat_lt, if◌then◌else◌, List, [], ◌∷◌, ◌++◌, length, take, reverse, get_or, append-nil, sym, ap, ◌∙◌, subst, arith}
+use Rattle.std.proofs.Common.{◌≡◌, ℕ, ◌+◌, ◌<◌, ◌≤◌, Bool, true, false, nat_lt, if◌then◌else◌, List, [], ◌∷◌, ◌++◌, length, take, reverse, get_or}
+use Rattle.std.proofs.Common.{append-nil, sym, ap, ◌∙◌, subst, arith}
 use Rattle.std.proofs.lemmas.Bool.{cases_lt}
 use Rattle.std.proofs.Common.{inl, inr}
 use Rattle.std.proofs.lemmas.List.{map_more, map-append}
@@ -22,7 +23,8 @@ least_first all s e = record {
   one = (0, omega arith, e);
 }
 
-pub least_next : (all : List (List Record)) (k s t m : ℕ) → IsLeastOf all k s → t ≡ last_in all k → m ≤ s → m ≤ t → (s ≤ t → m ≡ s) → (t < s → m ≡ t) → IsLeastOf all (k + 1) m
+pub least_next : (all : List (List Record)) (k s t m : ℕ) → IsLeastOf all k s → t ≡ last_in all k → m ≤ s → m ≤ t → (s ≤ t → m ≡ s) → (t < s → m ≡ t)
+    → IsLeastOf all (k + 1) m
 least_next all k s t m l e low_s low_t is_s is_t = record {
   below = λ n lt. elim (cases_lt n k) [
     | inl old ↦ let b = l.below n old in omega (arith, b, low_s)
@@ -42,7 +44,8 @@ least_last all k s e l = record {
 
 -- ---- places
 
-module _ (all : List (List Record)) (h : List Place) (s k : ℕ) (p d : Place) (r : Record) (v : List Place) (lt : k < length h) (ep : p ≡ get_or h k d) (er : r ≡ record_at all p)
+module _ (all : List (List Record)) (h : List Place) (s k : ℕ) (p d : Place) (r : Record) (v : List Place) (lt : k < length h)
+    (ep : p ≡ get_or h k d) (er : r ≡ record_at all p)
     (so_far : rows_at all v ≡ rows_up_to s (rows_at all (take k h))) where
   one_more : rows_up_to s (rows_at all (take (k + 1) h)) ≡ rows_up_to s (rows_at all (take k h)) ++ rows_up_to s (row_at all p ∷ [])
   one_more =
@@ -58,7 +61,8 @@ module _ (all : List (List Record)) (h : List Place) (s k : ℕ) (p d : Place) (
       ∙ ap (λ l. rows_up_to s (rows_at all (take k h)) ++ l) (sym (this false e)) ∙ sym one_more
 
   pub left_out : nat_lt s (stamp_of r) ≡ true → rows_at all v ≡ rows_up_to s (rows_at all (take (k + 1) h))
-  left_out e = so_far ∙ sym (append-nil (rows_up_to s (rows_at all (take k h)))) ∙ ap (λ l. rows_up_to s (rows_at all (take k h)) ++ l) (sym (this true e)) ∙ sym one_more
+  left_out e = so_far ∙ sym (append-nil (rows_up_to s (rows_at all (take k h))))
+      ∙ ap (λ l. rows_up_to s (rows_at all (take k h)) ++ l) (sym (this true e)) ∙ sym one_more
 
 pub within : (s t : ℕ) → t ≤ s → nat_lt s t ≡ false
 within s t le = grind (arith, le)
@@ -67,5 +71,6 @@ pub beyond : (s t : ℕ) → s < t → nat_lt s t ≡ true
 beyond s t lt = grind (arith, lt)
 
 -- the rows of a cut are those of the whole history up to the stamp
-pub cut_rows : (all : List (List Record)) (s : ℕ) (whole places : List Place) → rows_at all places ≡ rows_up_to s (rows_at all whole) → newest_first all places ≡ rows_up_to s (newest_first all whole)
+pub cut_rows : (all : List (List Record)) (s : ℕ) (whole places : List Place) → rows_at all places ≡ rows_up_to s (rows_at all whole)
+    → newest_first all places ≡ rows_up_to s (newest_first all whole)
 cut_rows all s whole places e = ap reverse e ∙ sym (rows_up_to-reverse s (rows_at all whole))

@@ -1,5 +1,6 @@
 -- The records and the rows up to a stamp.
-use Rattle.std.proofs.Common.{◌≡◌, ℕ, zero, suc, Bool, true, false, ◌&&◌, ◌||◌, ◌==◌, nat_lt, if◌then◌else◌, List, [], ◌∷◌, ◌++◌, reverse, refl, sym, ap, ◌∙◌, subst, arith}
+use Rattle.std.proofs.Common.{◌≡◌, ℕ, zero, suc, Bool, true, false, ◌&&◌, ◌||◌, ◌==◌, nat_lt, if◌then◌else◌, List, [], ◌∷◌, ◌++◌, reverse, refl, sym}
+use Rattle.std.proofs.Common.{ap, ◌∙◌, subst, arith}
 use mathlib.Core.List.{reverse_aux}
 use Rattle.cbdc_model.specs.Records.{Shape, Record, Row, journal, stamp_of, Genesis, Start}
 use Rattle.cbdc_model.specs.Ranges.{shard_node, on_shard}
@@ -13,7 +14,8 @@ into f false x y = refl
 
 -- ---- journals of rows
 
-either : (c d : Bool) (r : Record) (p q : List Record) → p ≡ q → (if c then p else (if d then r ∷ p else p)) ≡ (if d then (if c then q else r ∷ q) else q)
+either : (c d : Bool) (r : Record) (p q : List Record) → p ≡ q
+    → (if c then p else (if d then r ∷ p else p)) ≡ (if d then (if c then q else r ∷ q) else q)
 either true true r p q e = e
 either true false r p q e = e
 either false true r p q e = ap (λ l. r ∷ l) e
@@ -23,22 +25,26 @@ pub journal_up_to : (s n : ℕ) (rows : List Row) → journal n (rows_up_to s ro
 journal_up_to s n [] = refl
 journal_up_to s n (row ∷ rows) =
     into (journal n) (nat_lt s (stamp_of row.what)) (rows_up_to s rows) (row ∷ rows_up_to s rows)
-    ∙ either (nat_lt s (stamp_of row.what)) (row.node == n) row.what (journal n (rows_up_to s rows)) (up_to s (journal n rows)) (journal_up_to s n rows)
+    ∙ either (nat_lt s (stamp_of row.what)) (row.node == n) row.what (journal n (rows_up_to s rows)) (up_to s (journal n rows))
+    (journal_up_to s n rows)
     ∙ sym (into (up_to s) (row.node == n) (row.what ∷ journal n rows) (journal n rows))
 
 pub up_to-append : (s : ℕ) (I J : List Record) → up_to s (I ++ J) ≡ up_to s I ++ up_to s J
 up_to-append s [] J = refl
-up_to-append s (r ∷ I) J = elim (nat_lt s (stamp_of r)) as (λ c. (if c then up_to s (I ++ J) else r ∷ up_to s (I ++ J)) ≡ (if c then up_to s I else r ∷ up_to s I) ++ up_to s J) [
-  | true ↦ up_to-append s I J
-  | false ↦ ap (λ l. r ∷ l) (up_to-append s I J)
-]
+up_to-append s (r ∷ I) J = elim (nat_lt s (stamp_of r)) as
+    (λ c. (if c then up_to s (I ++ J) else r ∷ up_to s (I ++ J)) ≡ (if c then up_to s I else r ∷ up_to s I) ++ up_to s J) [
+      | true ↦ up_to-append s I J
+      | false ↦ ap (λ l. r ∷ l) (up_to-append s I J)
+    ]
 
 pub rows_up_to-append : (s : ℕ) (I J : List Row) → rows_up_to s (I ++ J) ≡ rows_up_to s I ++ rows_up_to s J
 rows_up_to-append s [] J = refl
-rows_up_to-append s (row ∷ I) J = elim (nat_lt s (stamp_of row.what)) as (λ c. (if c then rows_up_to s (I ++ J) else row ∷ rows_up_to s (I ++ J)) ≡ (if c then rows_up_to s I else row ∷ rows_up_to s I) ++ rows_up_to s J) [
-  | true ↦ rows_up_to-append s I J
-  | false ↦ ap (λ l. row ∷ l) (rows_up_to-append s I J)
-]
+rows_up_to-append s (row ∷ I) J = elim (nat_lt s (stamp_of row.what)) as
+    (λ c. (if c then rows_up_to s (I ++ J) else row ∷ rows_up_to s (I ++ J))
+    ≡ (if c then rows_up_to s I else row ∷ rows_up_to s I) ++ rows_up_to s J) [
+      | true ↦ rows_up_to-append s I J
+      | false ↦ ap (λ l. row ∷ l) (rows_up_to-append s I J)
+    ]
 
 -- ---- rows the other way round
 
@@ -58,7 +64,8 @@ low_numbers : (s p q u v : ℕ) → (nat_lt q p || ((q == p) && nat_lt v u)) ≡
 low_numbers s p q u v h e = grind arith
 
 -- where a row is up to the stamp, so are all behind it
-all_low : (s : ℕ) (row : Row) (later : List Row) → IsOrdered (row ∷ later) → nat_lt s (stamp_of row.what) ≡ false → rows_up_to s (row ∷ later) ≡ row ∷ later
+all_low : (s : ℕ) (row : Row) (later : List Row) → IsOrdered (row ∷ later) → nat_lt s (stamp_of row.what) ≡ false
+    → rows_up_to s (row ∷ later) ≡ row ∷ later
 all_low s row [] o e = ap (λ (c : Bool). if c then [] else row ∷ []) e
 all_low s row (next ∷ later) o e =
     ap (λ (c : Bool). if c then rows_up_to s (next ∷ later) else row ∷ rows_up_to s (next ∷ later)) e
@@ -67,13 +74,14 @@ all_low s row (next ∷ later) o e =
 -- those up to the stamp stand behind all others
 pub split : (s : ℕ) (rows : List Row) → IsOrdered rows → (newer : List Row) × (rows ≡ newer ++ rows_up_to s rows)
 split s [] o = ([], refl)
-split s (row ∷ rows) o = elim (nat_lt s (stamp_of row.what)) as (λ c. nat_lt s (stamp_of row.what) ≡ c → (newer : List Row) × (row ∷ rows ≡ newer ++ rows_up_to s (row ∷ rows))) [
-  | true ↦ λ e.
-      let r = split s rows o.1 in
-      let same : rows_up_to s (row ∷ rows) ≡ rows_up_to s rows = ap (λ (c : Bool). if c then rows_up_to s rows else row ∷ rows_up_to s rows) e in
-      (row ∷ r.0, ap (λ l. row ∷ l) (r.1 ∙ ap (λ l. r.0 ++ l) (sym same)))
-  | false ↦ λ e. ([], sym (all_low s row rows o e))
-] refl
+split s (row ∷ rows) o = elim (nat_lt s (stamp_of row.what)) as
+    (λ c. nat_lt s (stamp_of row.what) ≡ c → (newer : List Row) × (row ∷ rows ≡ newer ++ rows_up_to s (row ∷ rows))) [
+      | true ↦ λ e.
+          let r = split s rows o.1 in
+          let same : rows_up_to s (row ∷ rows) ≡ rows_up_to s rows = ap (λ (c : Bool). if c then rows_up_to s rows else row ∷ rows_up_to s rows) e in
+          (row ∷ r.0, ap (λ l. row ∷ l) (r.1 ∙ ap (λ l. r.0 ++ l) (sym same)))
+      | false ↦ λ e. ([], sym (all_low s row rows o e))
+    ] refl
 
 ordered_end : (newer older : List Row) → IsOrdered (newer ++ older) → IsOrdered older
 ordered_end [] older o = o
@@ -100,7 +108,8 @@ module _ (s : ℕ) (K : Shape) (m : Minted) where
   geneses_low : (n : ℕ) → rows_up_to s (geneses K m n ++ starts K m K.coordinators) ≡ geneses K m n ++ starts K m K.coordinators
   geneses_low zero = starts_low K.coordinators
   geneses_low (suc n) =
-      kept (record { node = shard_node K n; what = Genesis (header_of K m.id (shard_node K n)) (on_shard K.shards n m.hashes) }) (geneses K m n ++ starts K m K.coordinators) refl (geneses_low n)
+      kept (record { node = shard_node K n; what = Genesis (header_of K m.id (shard_node K n)) (on_shard K.shards n m.hashes) })
+      (geneses K m n ++ starts K m K.coordinators) refl (geneses_low n)
 
   pub first_low : rows_up_to s (first_rows K m) ≡ first_rows K m
   first_low = geneses_low K.shards

@@ -14,7 +14,8 @@ use Rattle.cut_audit.specs.Cuts.{AreFronts, IsCutOf, IsKeptCut}
 
 -- stamps rise along lists that were taken of kept journals, so `cut` gives their cut
 abbrev pub FrontsLaw : Type 0
-FrontsLaw = (K : Shape) (mint : List Output) (submissions : List FullTx) (X L : ℕ → List Record) → KeptJournals K mint submissions X → AreFronts K X L → (n : ℕ) → Rises (reverse (L n))
+FrontsLaw = (K : Shape) (mint : List Output) (submissions : List FullTx) (X L : ℕ → List Record) → KeptJournals K mint submissions X
+    → AreFronts K X L → (n : ℕ) → Rises (reverse (L n))
 
 -- the cut of lists that were taken of kept journals, at a stamp that each of them comes up to, is kept
 abbrev pub CutLaw : Type 0
@@ -30,7 +31,8 @@ pub record IsSoundCut (K : Shape) (mint : List Output) (submissions : List FullT
 
 -- so it is of the cut of lists that were taken of kept journals
 abbrev pub PartLaw : Type 0
-PartLaw = (K : Shape) (mint : List Output) (submissions : List FullTx) (X L : ℕ → List Record) (s : ℕ) (rows : List Row) → 0 < K.shards → Clean mint submissions
+PartLaw = (K : Shape) (mint : List Output) (submissions : List FullTx) (X L : ℕ → List Record) (s : ℕ) (rows : List Row) → 0 < K.shards
+    → Clean mint submissions
     → KeptJournals K mint submissions X → AreFronts K X L → ((n : ℕ) → n < node_count K → s ≤ last_stamp (L n)) → IsCutOf L s rows
     → IsSoundCut K mint submissions rows
 

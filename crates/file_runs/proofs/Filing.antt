@@ -20,7 +20,8 @@ use Rattle.ledger_runs.specs.Lanes.{LaneOf}
 use Rattle.file_runs.proofs.Sending.{sent_is, sent_from}
 use Rattle.file_runs.specs.Runs.{AreLanesOf}
 
-pub kept_more : (K : Shape) (mint : List Output) (submissions more : List FullTx) (J : ℕ → List Record) → KeptJournals K mint submissions J → KeptJournals K mint (submissions ++ more) J
+pub kept_more : (K : Shape) (mint : List Output) (submissions more : List FullTx) (J : ℕ → List Record) → KeptJournals K mint submissions J
+    → KeptJournals K mint (submissions ++ more) J
 kept_more K mint submissions more J kept = grow_law K mint submissions (submissions ++ more) J (λ t c. Contains-append_left submissions more t c) kept
 
 -- nothing was done
@@ -32,19 +33,22 @@ short_within verdicts file short k (t, within, sound, is) =
     let limits : IsShort t = All-contains IsShort file t short within in
     subst (λ c. IsCompact c) (sym is) (compact_law t limits.inputs limits.outputs)
 
-pub are_within : (K : Shape) (verdicts : VerdictsOf) (file : List FullTx) (lanes : List LaneOf) → All IsShort file → AreLanesOf K verdicts file lanes → AreWithin lanes
+pub are_within : (K : Shape) (verdicts : VerdictsOf) (file : List FullTx) (lanes : List LaneOf) → All IsShort file → AreLanesOf K verdicts file lanes
+    → AreWithin lanes
 are_within K verdicts file lanes short are lane x there =
     All-weaker (IsSentFrom verdicts file) IsCompact (short_within verdicts file short) x.txs (sent_from K verdicts file lanes are lane x there)
 
 proper : (verdicts : VerdictsOf) (file submissions : List FullTx) (k : Compact) → IsSentFrom verdicts file k → IsProperCompact (submissions ++ file) k
 proper verdicts file submissions k (t, within, sound, is) =
-    subst (λ c. IsProperCompact (submissions ++ file) c) (sym is) (member_law (submissions ++ file) t (verdicts (tx_id t)) (Contains-append_right submissions file t within) sound)
+    subst (λ c. IsProperCompact (submissions ++ file) c) (sym is)
+    (member_law (submissions ++ file) t (verdicts (tx_id t)) (Contains-append_right submissions file t within) sound)
 
 -- all that the lanes get is proper
 pub each_proper : (K : Shape) (verdicts : VerdictsOf) (file submissions : List FullTx) (lanes : List LaneOf) → AreLanesOf K verdicts file lanes
     → EachLane (λ _ x. All (IsProperCompact (submissions ++ file)) x.txs) lanes
 each_proper K verdicts file submissions lanes are lane x there =
-    All-weaker (IsSentFrom verdicts file) (IsProperCompact (submissions ++ file)) (proper verdicts file submissions) x.txs (sent_from K verdicts file lanes are lane x there)
+    All-weaker (IsSentFrom verdicts file) (IsProperCompact (submissions ++ file)) (proper verdicts file submissions) x.txs
+    (sent_from K verdicts file lanes are lane x there)
 
 -- what the lanes get, said of each place
 abbrev items_of : Option LaneOf → List Compact
@@ -83,17 +87,20 @@ sent_proper : (P : Compact → Type 0) (sent : ℕ → List Compact) (lanes : Li
     → (lane : ℕ) → lane < length lanes → All P (sent lane)
 sent_proper P sent lanes have each lane low = go (slice_get_cases lanes lane).1
   where
-    go : ((x : LaneOf) × (lane < length lanes) × (slice_get lanes lane ≡ Some x) × (get_or lanes lane x ≡ x)) ⊎ ((length lanes ≤ lane) × (slice_get lanes lane ≡ None)) → All P (sent lane)
+    go : ((x : LaneOf) × (lane < length lanes) × (slice_get lanes lane ≡ Some x) × (get_or lanes lane x ≡ x))
+        ⊎ ((length lanes ≤ lane) × (slice_get lanes lane ≡ None)) → All P (sent lane)
     go (inl (x, inside, is, e)) = subst (λ l. All P l) (have lane x is) (each lane x is)
     go (inr (past, e)) = absurd (omega (arith, past, low))
 
 pub runs_file : (K : Shape) (verdicts : VerdictsOf) (file : List FullTx) (lanes after : List LaneOf) (I J : ℕ → List Record)
     → AreLanesOf K verdicts file lanes → NoFault after
-    → ((sent : ℕ → List Compact) → HaveSent sent lanes → NoFault after → OfKept K I (λ _ submissions. AllProper K sent submissions → IsFileRun K sent I J))
+    → ((sent : ℕ → List Compact) → HaveSent sent lanes → NoFault after
+    → OfKept K I (λ _ submissions. AllProper K sent submissions → IsFileRun K sent I J))
     → OfKept K I (λ _ _. (sound : FullTx → Bool) → TellsSound verdicts sound → IsFileRun K (sent_to K sound file) I J)
 runs_file K verdicts file lanes after I J are none runs mint submissions kept sound tells =
     runs (sent_to K sound file) have none mint (submissions ++ file) (kept_more K mint submissions file I kept)
-    (λ lane low. sent_proper (IsProperCompact (submissions ++ file)) (sent_to K sound file) lanes have (each_proper K verdicts file submissions lanes are) lane (omega (arith, low, are.count)))
+    (λ lane low. sent_proper (IsProperCompact (submissions ++ file)) (sent_to K sound file) lanes have
+    (each_proper K verdicts file submissions lanes are) lane (omega (arith, low, are.count)))
   where
     have : HaveSent (sent_to K sound file) lanes
     have lane x there = sent_is K verdicts file lanes are sound tells lane x there

@@ -11,22 +11,26 @@ module _ {D : Type 0} (device : Ghosts D) (before : LedgerOf D) (lanes : List La
   the_one o a b p q = let z : Some a ≡ Some b = sym p ∙ q in cc
 
   -- where it has not run, they are those that it begins with
-  pub ready : (o : Option (LedgerOf D)) (works : List LaneOf) (has_run : Bool) (l : LedgerOf D) → IsHeld device before lanes o works has_run → has_run ≡ false → o ≡ Some l
+  pub ready : (o : Option (LedgerOf D)) (works : List LaneOf) (has_run : Bool) (l : LedgerOf D) → IsHeld device before lanes o works has_run
+      → has_run ≡ false → o ≡ Some l
       → (l ≡ before) × (works ≡ lanes) × CanWave before lanes
   ready o works has_run l held isnt there =
       let s : WaveStands device before lanes held.now works false = subst (λ b. WaveStands device before lanes held.now works b) isnt held.stands in
       (the_one o l held.now there held.there ∙ s.0, s.1, s.2)
 
   -- so a wave may run on them
-  pub can_run : (o : Option (LedgerOf D)) (works : List LaneOf) (has_run : Bool) (l : LedgerOf D) → IsHeld device before lanes o works has_run → has_run ≡ false → o ≡ Some l
+  pub can_run : (o : Option (LedgerOf D)) (works : List LaneOf) (has_run : Bool) (l : LedgerOf D) → IsHeld device before lanes o works has_run
+      → has_run ≡ false → o ≡ Some l
       → CanWave l works
   can_run o works has_run l held isnt there =
       let r = ready o works has_run l held isnt there in
       subst (λ k. CanWave k works) (sym r.0) (subst (λ xs. CanWave before xs) (sym r.1) r.2)
 
   -- and behind it they are as the wave left them
-  pub run : (o : Option (LedgerOf D)) (works : List LaneOf) (has_run : Bool) (l : LedgerOf D) → IsHeld device before lanes o works has_run → has_run ≡ false → o ≡ Some l
-      → (l' : LedgerOf D) (works' : List LaneOf) (o' : Option (LedgerOf D)) → IsWave device l l' works works' → o' ≡ Some l' → IsHeld device before lanes o' works' true
+  pub run : (o : Option (LedgerOf D)) (works : List LaneOf) (has_run : Bool) (l : LedgerOf D) → IsHeld device before lanes o works has_run
+      → has_run ≡ false → o ≡ Some l
+      → (l' : LedgerOf D) (works' : List LaneOf) (o' : Option (LedgerOf D)) → IsWave device l l' works works' → o' ≡ Some l'
+      → IsHeld device before lanes o' works' true
   run o works has_run l held isnt there l' works' o' wave is =
       let r = ready o works has_run l held isnt there in
       record {
@@ -36,7 +40,8 @@ module _ {D : Type 0} (device : Ghosts D) (before : LedgerOf D) (lanes : List La
       }
 
   -- where it has run, that is what is known of them
-  pub ran : (o : Option (LedgerOf D)) (works : List LaneOf) (has_run : Bool) (l : LedgerOf D) → IsHeld device before lanes o works has_run → has_run ≡ true → o ≡ Some l
+  pub ran : (o : Option (LedgerOf D)) (works : List LaneOf) (has_run : Bool) (l : LedgerOf D) → IsHeld device before lanes o works has_run
+      → has_run ≡ true → o ≡ Some l
       → IsWave device before l lanes works
   ran o works has_run l held is there =
       subst (λ k. IsWave device before k lanes works) (sym (the_one o l held.now there held.there))

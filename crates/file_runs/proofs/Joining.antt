@@ -22,7 +22,8 @@ KeepsFiles K files I J = OfKept K I (λ mint submissions. StaysKept K I J mint (
 pub record FilesSo (K : Shape) (verdicts : VerdictsOf) (files : List (List FullTx)) (I J : ℕ → List Record) : Type 0 where
   pub idle : AreIdle K J
   pub keeps : KeepsFiles K files I J
-  pub waves : OfKept K I (λ _ _. (sound : FullTx → Bool) (E : ℕ → List Record) → TellsSound verdicts sound → IsResumed K E I → Waves K sound files E J)
+  pub waves : OfKept K I (λ _ _. (sound : FullTx → Bool) (E : ℕ → List Record) → TellsSound verdicts sound → IsResumed K E I
+      → Waves K sound files E J)
 
 pub files_begin : (K : Shape) (verdicts : VerdictsOf) (I : ℕ → List Record) → AreIdle K I → FilesSo K verdicts [] I I
 files_begin K verdicts I idle = record {
@@ -31,5 +32,6 @@ files_begin K verdicts I idle = record {
   waves = λ mint submissions kept sound E tells resumed. waves_begin_law K sound E I resumed;
 }
 
-pub so_far : (files : List (List FullTx)) (i : ℕ) (file : List FullTx) → i < length files → file ≡ get_or files i file → take i files ++ file ∷ [] ≡ take (i + 1) files
+pub so_far : (files : List (List FullTx)) (i : ℕ) (file : List FullTx) → i < length files → file ≡ get_or files i file
+    → take i files ++ file ∷ [] ≡ take (i + 1) files
 so_far files i file low is = ap (λ f. take i files ++ f ∷ []) is ∙ sym (take_more files i file low)

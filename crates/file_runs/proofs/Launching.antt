@@ -12,9 +12,12 @@ use Rattle.file_runs.specs.Runs.{AreLanesOf, IsSentPiece}
 use Rattle.file_runs.proofs.Causing.{sent_piece}
 
 -- the wave of a file
-pub file_launches : (K : Shape) (verdicts : VerdictsOf) (file : List FullTx) (lanes after : List LaneOf) (I J : ℕ → List Record) (F G : ℕ → Option Record)
-    → length after ≡ K.coordinators * K.lanes → AreLanesOf K verdicts file lanes → ((sent : ℕ → List Compact) → HaveSent sent lanes → HaveSent sent after)
+pub file_launches : (K : Shape) (verdicts : VerdictsOf) (file : List FullTx) (lanes after : List LaneOf) (I J : ℕ → List Record)
+    (F G : ℕ → Option Record)
+    → length after ≡ K.coordinators * K.lanes → AreLanesOf K verdicts file lanes
+    → ((sent : ℕ → List Compact) → HaveSent sent lanes → HaveSent sent after)
     → Launches K (AreNextPieces K after I J) I J F G → Launches K (IsSentPiece K verdicts file I J) I J F G
 file_launches K verdicts file lanes after I J F G count are keeps =
     launches_by K (AreNextPieces K after I J) (IsSentPiece K verdicts file I J) I J F G
-    (λ lane txs inside pieces. (let x = at_place after lane (omega (arith, inside, count)) in sent_piece K verdicts file lanes after I J are keeps lane x.0 x.1 txs (pieces x.0 x.1)))
+    (λ lane txs inside pieces. (let x = at_place after lane (omega (arith, inside, count)) in
+    sent_piece K verdicts file lanes after I J are keeps lane x.0 x.1 txs (pieces x.0 x.1)))

@@ -1,5 +1,6 @@
 -- What an auditor saw beside a wave are looks at the ledger's journals behind it.
-use Rattle.std.proofs.Common.{◌≡◌, ◌⊎◌, inl, inr, ℕ, ◌+◌, ◌-◌, ◌<◌, ◌≤◌, true, false, nat_lt, if◌then◌else◌, List, [], ◌∷◌, ◌++◌, length, length-append, reverse, refl, sym, ap, ◌∙◌, subst, arith}
+use Rattle.std.proofs.Common.{◌≡◌, ◌⊎◌, inl, inr, ℕ, ◌+◌, ◌-◌, ◌<◌, ◌≤◌, true, false, nat_lt, if◌then◌else◌, List, [], ◌∷◌, ◌++◌, length}
+use Rattle.std.proofs.Common.{length-append, reverse, refl, sym, ap, ◌∙◌, subst, arith}
 use Rattle.std.specs.Global.{Vec}
 use Rattle.std.proofs.lemmas.List.{length-reverse}
 use Rattle.cbdc_model.specs.Records.{Header, Shape, Record}
@@ -43,28 +44,34 @@ low a b lt = grind (arith, lt)
 high : (a b : ℕ) → b ≤ a → nat_lt a b ≡ false
 high a b le = grind (arith, le)
 
-module _ {D : Type 0} (h : Header) (logs shards : List (NodeOf D)) (logs' : List (NodeOf D)) (shards' : List (NodeOf D)) (ledger : IsLedger h logs shards) where
+module _ {D : Type 0} (h : Header) (logs shards : List (NodeOf D)) (logs' : List (NodeOf D)) (shards' : List (NodeOf D))
+    (ledger : IsLedger h logs shards) where
   abbrev Between : ℕ → List Record → Type 0
   Between n list = IsEnd (reverse list) (node_journals h.shape logs' shards' n) × (0 < length list)
 
-  node_at : (lists : List (Vec Record)) → HasSeen h.shape (sight_at sight logs) (sight_at sight shards) (sight_at sight logs') (sight_at sight shards') lists
-      → (n : ℕ) → (n < h.shape.coordinators) ⊎ ((h.shape.coordinators ≤ n) × (n - h.shape.coordinators < h.shape.shards) × (h.shape.coordinators + (n - h.shape.coordinators) ≡ n))
+  node_at : (lists : List (Vec Record)) → HasSeen h.shape (sight_at sight logs) (sight_at sight shards) (sight_at sight logs')
+      (sight_at sight shards') lists
+      → (n : ℕ) → (n < h.shape.coordinators) ⊎ ((h.shape.coordinators ≤ n) × (n - h.shape.coordinators < h.shape.shards)
+      × (h.shape.coordinators + (n - h.shape.coordinators) ≡ n))
       → Between n (list_at lists n)
   node_at lists seen n (inl lt) =
       let b = seen.of_logs n lt in
-      let is = ap (λ c. if c then (sight_at sight logs' n).seen else (sight_at sight shards' (n - h.shape.coordinators)).seen) (low n h.shape.coordinators lt) in (
+      let is = ap (λ c. if c then (sight_at sight logs' n).seen else (sight_at sight shards' (n - h.shape.coordinators)).seen)
+      (low n h.shape.coordinators lt) in (
         subst (λ J. IsEnd (reverse (list_at lists n)) J) (sym is) b.front,
         some_between _ _ (list_at lists n) (some_in _ _ (journal_at logs ledger.log_journals n (omega (arith, lt, ledger.coordinators)))) b,
       )
   node_at lists seen n (inr (le, lt, back)) =
       let s = n - h.shape.coordinators in
       let b = subst (λ m. IsBetween (sight_at sight shards s).seen (sight_at sight shards' s).seen (list_at lists m)) back (seen.of_shards s lt) in
-      let is = ap (λ c. if c then (sight_at sight logs' n).seen else (sight_at sight shards' (n - h.shape.coordinators)).seen) (high n h.shape.coordinators le) in (
+      let is = ap (λ c. if c then (sight_at sight logs' n).seen else (sight_at sight shards' (n - h.shape.coordinators)).seen)
+      (high n h.shape.coordinators le) in (
         subst (λ J. IsEnd (reverse (list_at lists n)) J) (sym is) b.front,
         some_between _ _ (list_at lists n) (some_in _ _ (journal_at shards ledger.shard_journals s (omega (arith, lt, ledger.shards_are)))) b,
       )
 
-  looks : (lists : List (Vec Record)) → HasSeen h.shape (sight_at sight logs) (sight_at sight shards) (sight_at sight logs') (sight_at sight shards') lists
+  looks : (lists : List (Vec Record)) → HasSeen h.shape (sight_at sight logs) (sight_at sight shards) (sight_at sight logs') (sight_at sight shards')
+      lists
       → AreLooks h.shape (node_journals h.shape logs' shards') lists
   looks lists seen = record {
     many = seen.many;
@@ -74,4 +81,5 @@ module _ {D : Type 0} (h : Header) (logs shards : List (NodeOf D)) (logs' : List
 
   pub if_looks : (w : Watch) → IfSaw w (HasSeen h.shape (sight_at sight logs) (sight_at sight shards) (sight_at sight logs') (sight_at sight shards'))
       → IfSaw w (AreLooks h.shape (node_journals h.shape logs' shards'))
-  if_looks w seen = saw_by w (HasSeen h.shape (sight_at sight logs) (sight_at sight shards) (sight_at sight logs') (sight_at sight shards')) (AreLooks h.shape (node_journals h.shape logs' shards')) looks seen
+  if_looks w seen = saw_by w (HasSeen h.shape (sight_at sight logs) (sight_at sight shards) (sight_at sight logs') (sight_at sight shards'))
+      (AreLooks h.shape (node_journals h.shape logs' shards')) looks seen

@@ -25,12 +25,14 @@ use Rattle.file_runs.proofs.Turns.{told_there, none_open}
 -- ---- a lane's own records alone tell its open batch
 
 told_by : ℕ → Slot → ℕ → List Compact → List Outcome → Option OpenLane
-told_by lane s stamp txs outcomes = option_map (λ p. record { batch = record { lane = lane; number = s.number }; phase = p; stamp = stamp; txs = txs; outcomes = outcomes }) (open_phase_of s.phase)
+told_by lane s stamp txs outcomes = option_map (λ p. record
+    { batch = record { lane = lane; number = s.number }; phase = p; stamp = stamp; txs = txs; outcomes = outcomes }) (open_phase_of s.phase)
 
 same_open : (lane : ℕ) (L M : List Record) → own lane M ≡ own lane L → open_lane M lane ≡ open_lane L lane
 unfolding told_by
 same_open lane L M same =
-    ap (λ s. told_by lane s (slot_stamp M lane) (txs_of M (record { lane = lane; number = s.number })) (outcomes_of M (record { lane = lane; number = s.number }))) slots
+    ap (λ s. told_by lane s (slot_stamp M lane) (txs_of M (record { lane = lane; number = s.number }))
+    (outcomes_of M (record { lane = lane; number = s.number }))) slots
     ∙ ap (λ t. told_by lane (slot L lane) t (txs_of M b) (outcomes_of M b)) stamps
     ∙ ap (λ r. told_by lane (slot L lane) (slot_stamp L lane) (txs_in r) (outcomes_of M b)) (same_record 6 lane b L M refl same)
     ∙ ap (λ r. told_by lane (slot L lane) (slot_stamp L lane) (txs_of L b) (outcomes_in r)) (same_record 7 lane b L M refl same)
@@ -61,7 +63,8 @@ module _ {D : Type 0} (device : Ghosts D) (h : Header) (lane : ℕ) (logs shards
       let shape = ap (λ k. k.shape) (ledger.log_headers (home_of K lane) (home_inside lane K.coordinators K.lanes lt)) in
       subst (λ k. HasSize k o.txs) shape (open_at h logs shards lane (home_of K lane) o ledger lt refl told).size
 
-  pub is_found : (at : ℕ) (x : NodeOf D) → at ≡ home_of K lane → x ≡ get_or logs at x → {E : Type 0} (found : Result (Option OpenLane) E) → IfOk found (λ o. o ≡ open_lane x.journal lane) → IfOk found (IsFound K I opens lane)
+  pub is_found : (at : ℕ) (x : NodeOf D) → at ≡ home_of K lane → x ≡ get_or logs at x → {E : Type 0} (found : Result (Option OpenLane) E)
+      → IfOk found (λ o. o ≡ open_lane x.journal lane) → IfOk found (IsFound K I opens lane)
   is_found at x at_is is (Err e) told = tt
   is_found at x at_is is (Ok found) told =
       let there : opens lane ≡ found = told_there device h lane logs shards ledger lt at x at_is is found found told refl in
@@ -72,7 +75,8 @@ module _ {D : Type 0} (device : Ghosts D) (h : Header) (lane : ℕ) (logs shards
       }
 
   -- another lane's is what it was behind a turn of this one
-  pub opens_keep : (logs' : List (NodeOf D)) (shards' : List (NodeOf D)) → GrowBy lane I (node_journals h.shape logs' shards') → KeepsOpens K lane opens (λ l. open_lane (sight_at sight logs' (home_of K l)).seen l)
+  pub opens_keep : (logs' : List (NodeOf D)) (shards' : List (NodeOf D)) → GrowBy lane I (node_journals h.shape logs' shards')
+      → KeepsOpens K lane opens (λ l. open_lane (sight_at sight logs' (home_of K l)).seen l)
   opens_keep logs' shards' grown other inside apart =
       let home : home_of K other < K.coordinators = home_inside other K.coordinators K.lanes inside in
       same_open other (sight_at sight logs (home_of K other)).seen (sight_at sight logs' (home_of K other)).seen

@@ -1,5 +1,6 @@
 -- The nodes of a ledger behind a lane's driver.
-use Rattle.std.proofs.Common.{◌≡◌, ◌≢◌, ◌⊎◌, inl, inr, ℕ, zero, suc, ◌-◌, ◌*◌, ◌/◌, ◌<◌, ◌≤◌, true, false, ◌==◌, nat_lt, if◌then◌else◌, List, [], ◌∷◌, length, take, Some, None, refl, sym, ap, ◌∙◌, subst, arith}
+use Rattle.std.proofs.Common.{◌≡◌, ◌≢◌, ◌⊎◌, inl, inr, ℕ, zero, suc, ◌-◌, ◌*◌, ◌/◌, ◌<◌, ◌≤◌, true, false, ◌==◌, nat_lt, if◌then◌else◌, List, [], ◌∷◌}
+use Rattle.std.proofs.Common.{length, take, Some, None, refl, sym, ap, ◌∙◌, subst, arith}
 use Rattle.std.specs.Prelude.{IfSome}
 use Rattle.std.specs.List.{All}
 use Rattle.std.proofs.lemmas.List.Elements.{All-nil, All-cons, All-head, All-tail, All-weaker}
@@ -39,16 +40,19 @@ take_whole (x ∷ xs) zero le = absurd (omega (arith, le))
 take_whole (x ∷ xs) (suc n) le = ap (λ ys. x ∷ ys) (take_whole xs n (omega (arith, le)))
 
 -- what is so at the coordinator that the driver was set to is so at the lane's
-pub at_home : (F : Sight → Sight → Type 0) (logs logs' : ℕ → Sight) (at at' home : ℕ) → at ≡ home → at' ≡ at → F (logs at) (logs' at') → F (logs home) (logs' home)
+pub at_home : (F : Sight → Sight → Type 0) (logs logs' : ℕ → Sight) (at at' home : ℕ) → at ≡ home → at' ≡ at → F (logs at) (logs' at')
+    → F (logs home) (logs' home)
 at_home F logs logs' at at' home e s f = subst (λ n. F (logs n) (logs' n)) e (subst (λ n. F (logs at) (logs' n)) s f)
 
 module _ {D : Type 0} where
-  pub journal_at : (logs : List (NodeOf D)) → All (λ l. IsJournal l.header l.journal) logs → (n : ℕ) → n < length logs → IsJournal (sight_at sight logs n).header (sight_at sight logs n).seen
+  pub journal_at : (logs : List (NodeOf D)) → All (λ l. IsJournal l.header l.journal) logs → (n : ℕ) → n < length logs
+      → IsJournal (sight_at sight logs n).header (sight_at sight logs n).seen
   journal_at [] all n lt = absurd (let z : n < 0 = lt in omega (arith, z))
   journal_at (l ∷ logs) all zero lt = All-head (λ l. IsJournal l.header l.journal) l logs all
   journal_at (l ∷ logs) all (suc n) lt = journal_at logs (All-tail (λ l. IsJournal l.header l.journal) l logs all) n (omega (arith, lt))
 
-  next_at : (logs : List (NodeOf D)) → All FliesNext logs → (n : ℕ) → n < length logs → IfSome (sight_at sight logs n).flight (After (sight_at sight logs n).header (sight_at sight logs n).seen)
+  next_at : (logs : List (NodeOf D)) → All FliesNext logs → (n : ℕ) → n < length logs
+      → IfSome (sight_at sight logs n).flight (After (sight_at sight logs n).header (sight_at sight logs n).seen)
   next_at [] all n lt = absurd (let z : n < 0 = lt in omega (arith, z))
   next_at (l ∷ logs) all zero lt = All-head FliesNext l logs all
   next_at (l ∷ logs) all (suc n) lt = next_at logs (All-tail FliesNext l logs all) n (omega (arith, lt))
@@ -70,14 +74,16 @@ module _ {D : Type 0} where
   none_there (s ∷ shards) zero le = absurd (omega (arith, le))
   none_there (s ∷ shards) (suc n) le = none_there shards n (omega (arith, le))
 
-  pub are_nodes : (h : Header) (logs shards : List (NodeOf D)) → IsLedger h logs shards → AreNodes h.shape (sight_at sight logs) (sight_at sight shards)
+  pub are_nodes : (h : Header) (logs shards : List (NodeOf D)) → IsLedger h logs shards
+      → AreNodes h.shape (sight_at sight logs) (sight_at sight shards)
   are_nodes h logs shards ledger = record {
     logs_are = λ n lt. journal_at logs ledger.log_journals n (subst (λ m. n < m) (sym ledger.coordinators) lt);
     shards_are = λ s lt. journal_at shards ledger.shard_journals s (subst (λ m. s < m) (sym ledger.shards_are) lt);
     beyond = λ s le. none_there shards s (subst (λ m. m ≤ s) (sym ledger.shards_are) le);
   }
 
-  pub are_next : (h : Header) (logs shards : List (NodeOf D)) → length logs ≡ h.shape.coordinators → length shards ≡ h.shape.shards → All FliesNext logs → All FliesNext shards
+  pub are_next : (h : Header) (logs shards : List (NodeOf D)) → length logs ≡ h.shape.coordinators → length shards ≡ h.shape.shards
+      → All FliesNext logs → All FliesNext shards
       → AreNext h.shape (sight_at sight logs) (sight_at sight shards)
   are_next h logs shards log_count shard_count log_flights shard_flights = record {
     logs_are = λ n lt. next_at logs log_flights n (subst (λ m. n < m) (sym log_count) lt);
@@ -90,30 +96,40 @@ module _ {D : Type 0} where
       let e : (sight_at sight shards s).header ≡ header_of h.shape h.genesis (shard_node h.shape s) = ledger.shard_headers s lt in
       (ap (λ k. k.shape) e, ap (λ k. k.node) e)
 
-  pub is_lane : (h : Header) (logs shards : List (NodeOf D)) (lane at : ℕ) → IsLedger h logs shards → IsLaneOf h.shape lane → at ≡ home_of h.shape lane
+  pub is_lane : (h : Header) (logs shards : List (NodeOf D)) (lane at : ℕ) → IsLedger h logs shards → IsLaneOf h.shape lane
+      → at ≡ home_of h.shape lane
       → IsLane (sight_at sight logs at).header lane
   is_lane h logs shards lane at ledger lt e =
       subst (λ m. IsLane (sight_at sight logs m).header lane) (sym e)
-      (subst (λ k. IsLane k lane) (sym (ledger.log_headers (home_of h.shape lane) (home_inside lane h.shape.coordinators h.shape.lanes lt))) (lt, refl))
+      (subst (λ k. IsLane k lane) (sym (ledger.log_headers (home_of h.shape lane) (home_inside lane h.shape.coordinators h.shape.lanes lt)))
+      (lt, refl))
 
-  pub open_at : (h : Header) (logs shards : List (NodeOf D)) (lane at : ℕ) (o : OpenLane) → IsLedger h logs shards → IsLaneOf h.shape lane → at ≡ home_of h.shape lane
+  pub open_at : (h : Header) (logs shards : List (NodeOf D)) (lane at : ℕ) (o : OpenLane) → IsLedger h logs shards → IsLaneOf h.shape lane
+      → at ≡ home_of h.shape lane
       → open_lane (sight_at sight logs (home_of h.shape lane)).seen lane ≡ Some o
-      → IsLaneOpen (sight_at sight logs at).header (λ l. (slot (sight_at sight logs at).seen l).phase) (λ l. txs_of (sight_at sight logs at).seen (open_batch (sight_at sight logs at).seen l)) o
+      → IsLaneOpen (sight_at sight logs at).header (λ l. (slot (sight_at sight logs at).seen l).phase)
+      (λ l. txs_of (sight_at sight logs at).seen (open_batch (sight_at sight logs at).seen l)) o
   open_at h logs shards lane at o ledger lt e told =
       told_is_open (sight_at sight logs at).header (sight_at sight logs at).seen lane o
-      (journal_at logs ledger.log_journals at (subst (λ n. n < length logs) (sym e) (subst (λ m. home_of h.shape lane < m) (sym ledger.coordinators) (home_inside lane h.shape.coordinators h.shape.lanes lt))))
+      (journal_at logs ledger.log_journals at (subst (λ n. n < length logs) (sym e)
+      (subst (λ m. home_of h.shape lane < m) (sym ledger.coordinators) (home_inside lane h.shape.coordinators h.shape.lanes lt))))
       (is_lane h logs shards lane at ledger lt e) (subst (λ n. open_lane (sight_at sight logs n).seen lane ≡ Some o) (sym e) told)
 
   module _ (device : Ghosts D) (h : Header) (lane at at' : ℕ) (logs shards : List (NodeOf D)) (logs' : List (NodeOf D)) (shards' : List (NodeOf D))
       (ledger : IsLedger h logs shards) (lt : IsLaneOf h.shape lane) (at_is : at ≡ home_of h.shape lane) (at_same : at' ≡ at)
       (named : ℕ) (named_is : named ≡ lane) (log_count : length logs' ≡ length logs) (shard_count : length shards' ≡ length shards)
-      (elsewhere : (n : ℕ) → n ≢ at → sight_at sight logs' n ≡ sight_at sight logs n) (log_nodes : KeepNodes (sight_at sight logs) (sight_at sight logs')) (shard_nodes : KeepNodes (sight_at sight shards) (sight_at sight shards'))
-      (others : KeepsOtherLanes (sight_at sight logs at).header named (λ l. (slot (sight_at sight logs at).seen l).phase) (λ l. (slot (sight_at sight logs' at').seen l).phase)
-      (λ l. txs_of (sight_at sight logs at).seen (open_batch (sight_at sight logs at).seen l)) (λ l. txs_of (sight_at sight logs' at').seen (open_batch (sight_at sight logs' at').seen l)))
+      (elsewhere : (n : ℕ) → n ≢ at → sight_at sight logs' n ≡ sight_at sight logs n)
+      (log_nodes : KeepNodes (sight_at sight logs) (sight_at sight logs'))
+      (shard_nodes : KeepNodes (sight_at sight shards) (sight_at sight shards'))
+      (others : KeepsOtherLanes (sight_at sight logs at).header named (λ l. (slot (sight_at sight logs at).seen l).phase)
+      (λ l. (slot (sight_at sight logs' at').seen l).phase)
+      (λ l. txs_of (sight_at sight logs at).seen (open_batch (sight_at sight logs at).seen l))
+      (λ l. txs_of (sight_at sight logs' at').seen (open_batch (sight_at sight logs' at').seen l)))
       (log_holds : AreNodesHeld device logs → AreNodesHeld device logs') (shard_holds : AreNodesHeld device shards → AreNodesHeld device shards')
       (log_later : (n : ℕ) → (sight_at sight logs n).faults ≤ (sight_at sight logs' n).faults)
       (shard_later : (n : ℕ) → (sight_at sight shards n).faults ≤ (sight_at sight shards' n).faults)
-      (log_journals : All (λ l. IsJournal l.header l.journal) logs') (shard_journals : All (λ s. IsJournal s.header s.journal) shards') (log_flights : All FliesNext logs') (shard_flights : All FliesNext shards') where
+      (log_journals : All (λ l. IsJournal l.header l.journal) logs') (shard_journals : All (λ s. IsJournal s.header s.journal) shards')
+      (log_flights : All FliesNext logs') (shard_flights : All FliesNext shards') where
     here : (n : ℕ) → (n ≡ at) ⊎ (n ≢ at)
     here n = go (eqb_tells n at)
       where
@@ -146,19 +162,24 @@ module _ {D : Type 0} where
         ∙ at_home (here (home_of h.shape l))
         ∙ ap (λ L. (slot L l).phase) (sym (seen_log h.shape (sight_at sight logs) (sight_at sight shards) (home_of h.shape l) inside))
       where
-        at_home : (home_of h.shape l ≡ at) ⊎ (home_of h.shape l ≢ at) → (slot (sight_at sight logs' (home_of h.shape l)).seen l).phase ≡ (slot (sight_at sight logs (home_of h.shape l)).seen l).phase
+        at_home : (home_of h.shape l ≡ at) ⊎ (home_of h.shape l ≢ at)
+            → (slot (sight_at sight logs' (home_of h.shape l)).seen l).phase ≡ (slot (sight_at sight logs (home_of h.shape l)).seen l).phase
         at_home (inl e) = subst (λ m. (slot (sight_at sight logs' m).seen l).phase ≡ (slot (sight_at sight logs m).seen l).phase) (sym e)
-            (subst (λ m. (slot (sight_at sight logs' m).seen l).phase ≡ (slot (sight_at sight logs at).seen l).phase) at_same (others l (is_home l e low) (λ is. other (is ∙ named_is))).0)
+            (subst (λ m. (slot (sight_at sight logs' m).seen l).phase ≡ (slot (sight_at sight logs at).seen l).phase) at_same
+            (others l (is_home l e low) (λ is. other (is ∙ named_is))).0)
         at_home (inr n) = ap (λ s. (slot s.seen l).phase) (elsewhere (home_of h.shape l) n)
 
     stored : AreStored device logs shards → AreStored device logs' shards'
     stored s = record {
-      logs_are = All-weaker (IsNodeHeld device) (HoldsJournal device) (λ l x. x.held) logs' (log_holds (all_held device logs ledger.log_journals s.logs_are));
-      shards_are = All-weaker (IsNodeHeld device) (HoldsJournal device) (λ x y. y.held) shards' (shard_holds (all_held device shards ledger.shard_journals s.shards_are));
+      logs_are = All-weaker (IsNodeHeld device) (HoldsJournal device) (λ l x. x.held) logs'
+          (log_holds (all_held device logs ledger.log_journals s.logs_are));
+      shards_are = All-weaker (IsNodeHeld device) (HoldsJournal device) (λ x y. y.held) shards'
+          (shard_holds (all_held device shards ledger.shard_journals s.shards_are));
     }
 
     later : (n : ℕ) → faults_of h.shape logs shards n ≤ faults_of h.shape logs' shards' n
-    later n = elim (nat_lt n h.shape.coordinators) as (λ c. (if c then (sight_at sight logs n).faults else (sight_at sight shards (n - h.shape.coordinators)).faults)
+    later n = elim (nat_lt n h.shape.coordinators) as
+        (λ c. (if c then (sight_at sight logs n).faults else (sight_at sight shards (n - h.shape.coordinators)).faults)
         ≤ (if c then (sight_at sight logs' n).faults else (sight_at sight shards' (n - h.shape.coordinators)).faults)) [
           | true ↦ log_later n
           | false ↦ shard_later (n - h.shape.coordinators)

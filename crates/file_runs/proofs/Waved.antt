@@ -1,5 +1,6 @@
 -- The nodes of a ledger behind a wave of its lanes.
-use Rattle.std.proofs.Common.{◌≡◌, ◌⊎◌, inl, inr, ℕ, suc, ◌-◌, ◌*◌, ◌<◌, ◌≤◌, true, false, nat_lt, if◌then◌else◌, List, [], ◌∷◌, length, None, refl, sym, ap, ◌∙◌, subst, arith}
+use Rattle.std.proofs.Common.{◌≡◌, ◌⊎◌, inl, inr, ℕ, suc, ◌-◌, ◌*◌, ◌<◌, ◌≤◌, true, false, nat_lt, if◌then◌else◌, List, [], ◌∷◌, length, None, refl}
+use Rattle.std.proofs.Common.{sym, ap, ◌∙◌, subst, arith}
 use Rattle.std.specs.List.{All}
 use Rattle.std.proofs.lemmas.List.Elements.{All-nil, All-cons, All-weaker}
 use Rattle.outside.specs.declared.disk.Disk.{Ghosts}
@@ -39,7 +40,8 @@ module _ (K : Shape) (logs shards : ℕ → Sight) where
   log_flight n lt = ap (λ c. if c then (logs n).flight else (shards (n - K.coordinators)).flight) (is_low n K.coordinators lt)
 
   shard_flight : (s : ℕ) → flying K logs shards (shard_node K s) ≡ (shards s).flight
-  shard_flight s = ap (λ c. if c then (logs (shard_node K s)).flight else (shards (shard_node K s - K.coordinators)).flight) (is_high (shard_node K s) K.coordinators (omega arith)) ∙ ap (λ m. (shards m).flight) back
+  shard_flight s = ap (λ c. if c then (logs (shard_node K s)).flight else (shards (shard_node K s - K.coordinators)).flight)
+      (is_high (shard_node K s) K.coordinators (omega arith)) ∙ ap (λ m. (shards m).flight) back
     where
       back : shard_node K s - K.coordinators ≡ s
       back = omega arith
@@ -47,8 +49,10 @@ module _ (K : Shape) (logs shards : ℕ → Sight) where
 module _ {D : Type 0} (device : Ghosts D) (h : Header) (logs shards : List (NodeOf D)) (logs' : List (NodeOf D)) (shards' : List (NodeOf D))
     (old new : List LaneOf) (ledger : IsLedger h logs shards) (places : length old ≡ h.shape.coordinators * h.shape.lanes)
     (ran : WaveRan h.shape (sight_at sight logs) (sight_at sight shards) (sight_at sight logs') (sight_at sight shards') old new)
-    (logs_go : WentOn sight (λ a b. IsNodeHeld device a → IsNodeHeld device b) logs logs') (shards_go : WentOn sight (λ a b. IsNodeHeld device a → IsNodeHeld device b) shards shards')
-    (log_journals : All (λ l. IsJournal l.header l.journal) logs') (log_flights : All FliesNext logs') (shard_journals : All (λ s. IsJournal s.header s.journal) shards') (shard_flights : All FliesNext shards') where
+    (logs_go : WentOn sight (λ a b. IsNodeHeld device a → IsNodeHeld device b) logs logs')
+    (shards_go : WentOn sight (λ a b. IsNodeHeld device a → IsNodeHeld device b) shards shards')
+    (log_journals : All (λ l. IsJournal l.header l.journal) logs') (log_flights : All FliesNext logs')
+    (shard_journals : All (λ s. IsJournal s.header s.journal) shards') (shard_flights : All FliesNext shards') where
   abbrev K : Shape
   K = h.shape
 
@@ -126,19 +130,24 @@ module _ {D : Type 0} (device : Ghosts D) (h : Header) (logs shards : List (Node
 pub wave_law : {D : Type 0} (device : Ghosts D) (h : Header) (logs shards : List (NodeOf D)) (logs' : List (NodeOf D)) (shards' : List (NodeOf D))
     (old new : List LaneOf) → LedgerWaveLaw device h logs shards logs' shards' old new
 wave_law device h logs shards logs' shards' old new ledger places ran logs_go shards_go log_journals log_flights shard_journals shard_flights =
-    let a = all device h logs shards logs' shards' old new ledger places ran logs_go shards_go log_journals log_flights shard_journals shard_flights in
+    let a = all device h logs shards logs' shards' old new ledger places ran logs_go shards_go log_journals log_flights shard_journals shard_flights
+    in
     record {
-      ledger = still device h logs shards logs' shards' old new ledger places ran logs_go shards_go log_journals log_flights shard_journals shard_flights;
+      ledger = still device h logs shards logs' shards' old new ledger places ran logs_go shards_go log_journals log_flights shard_journals
+          shard_flights;
       says = a.0;
       checked = λ c. (c.0, a.0.checked c.0 c.1);
-      quiet = λ none q. now_quiet device h logs shards logs' shards' old new ledger places ran logs_go shards_go log_journals log_flights shard_journals shard_flights
-          (a.0.quiet none (was_quiet device h logs shards logs' shards' old new ledger places ran logs_go shards_go log_journals log_flights shard_journals shard_flights q));
+      quiet = λ none q. now_quiet device h logs shards logs' shards' old new ledger places ran logs_go shards_go log_journals log_flights
+          shard_journals shard_flights
+          (a.0.quiet none (was_quiet device h logs shards logs' shards' old new ledger places ran logs_go shards_go log_journals log_flights
+          shard_journals shard_flights q));
       keeps_ledger = record {
         shape_same = refl;
         opened_same = a.1.opened_same;
         later = a.1.later;
         capacity_same = a.1.capacity_same;
-        held = stored device h logs shards logs' shards' old new ledger places ran logs_go shards_go log_journals log_flights shard_journals shard_flights;
+        held = stored device h logs shards logs' shards' old new ledger places ran logs_go shards_go log_journals log_flights shard_journals
+            shard_flights;
       };
     }
 
@@ -151,11 +160,14 @@ module _ {D : Type 0} (h : Header) (logs shards : List (NodeOf D)) (ledger : IsL
     shards_are = are_shards h logs shards ledger;
   }
 
-  pub all_settled : HaveCheckedJournals h.shape logs shards → AreIdle h.shape (node_journals h.shape logs shards) → (lane : ℕ) → lane < h.shape.coordinators * h.shape.lanes
+  pub all_settled : HaveCheckedJournals h.shape logs shards → AreIdle h.shape (node_journals h.shape logs shards) → (lane : ℕ)
+      → lane < h.shape.coordinators * h.shape.lanes
       → IsLaneSettled h.shape lane (sight_at sight logs (home_of h.shape lane)) (sight_at sight shards)
-  all_settled c idle lane lt = fresh_settled_law h.shape c.0 (sight_at sight logs) (sight_at sight shards) lane (sight_at sight logs (home_of h.shape lane)) (sight_at sight shards)
+  all_settled c idle lane lt = fresh_settled_law h.shape c.0 (sight_at sight logs) (sight_at sight shards) lane
+      (sight_at sight logs (home_of h.shape lane)) (sight_at sight shards)
       ledger.limits lt (λ n low. (nodes_of.logs_are n low).0) c.1 idle (refl, refl) (λ s. refl)
 
 pub all_within : (lanes : List LaneOf) → AreWithin lanes → All (λ x. All IsCompact x.txs) lanes
 all_within [] within = All-nil (λ x. All IsCompact x.txs)
-all_within (x ∷ lanes) within = All-cons (λ y. All IsCompact y.txs) x lanes (within 0 x refl) (all_within lanes (λ lane y there. within (suc lane) y there))
+all_within (x ∷ lanes) within = All-cons (λ y. All IsCompact y.txs) x lanes (within 0 x refl)
+    (all_within lanes (λ lane y there. within (suc lane) y there))

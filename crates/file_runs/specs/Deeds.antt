@@ -35,7 +35,8 @@ file_deed verdicts file = record {
 -- files were run: their waves stand behind whatever resuming led to the journals before, and each wave tells the results of its submissions
 pub record DidFiles (K : Shape) (verdicts : VerdictsOf) (files : List (List FullTx)) (I J : ℕ → List Record) (ws : List Wave) : Type 0 where
   pub idle : AreIdle K J
-  pub waves : OfKept K I (λ _ _. (sound : FullTx → Bool) (E : ℕ → List Record) → TellsSound verdicts sound → IsResumed K E I → Waves K sound files E J)
+  pub waves : OfKept K I (λ _ _. (sound : FullTx → Bool) (E : ℕ → List Record) → TellsSound verdicts sound → IsResumed K E I
+      → Waves K sound files E J)
   pub told : OfKept K I (λ _ _. TellFiles K verdicts files I J ws)
   pub prepared : HavePreparedFiles K verdicts files I J
 
@@ -46,7 +47,8 @@ first_files verdicts files i = record {
   next = λ K I J. IsFilesPiece K verdicts files I J;
   did = λ K I J ws. DidFiles K verdicts (take i files) I J ws;
   begun = λ K I J. (0 < K.batch → HaveBegunFiles K verdicts files I J)
-      × OfKept K I (λ mint _. (sound : FullTx → Bool) (E : ℕ → List Record) → TellsSound verdicts sound → IsResumed K E I → AreRunOrCut K sound files mint E J);
+      × OfKept K I (λ mint _. (sound : FullTx → Bool) (E : ℕ → List Record) → TellsSound verdicts sound → IsResumed K E I
+      → AreRunOrCut K sound files mint E J);
   ends = λ K I J failed may_hold e. EndsFiles K verdicts files I J failed may_hold e × LanesRest K J failed;
 }
 
@@ -57,6 +59,7 @@ files_deed verdicts files = record {
   next = λ K I J. IsFilesPiece K verdicts files I J;
   did = λ K I J ws. DidFiles K verdicts files I J ws.items;
   begun = λ K I J. (0 < K.batch → HaveBegunFiles K verdicts files I J)
-      × OfKept K I (λ mint _. (sound : FullTx → Bool) (E : ℕ → List Record) → TellsSound verdicts sound → IsResumed K E I → AreRunOrCut K sound files mint E J);
+      × OfKept K I (λ mint _. (sound : FullTx → Bool) (E : ℕ → List Record) → TellsSound verdicts sound → IsResumed K E I
+      → AreRunOrCut K sound files mint E J);
   ends = λ K I J failed may_hold e. EndsFiles K verdicts files I J failed may_hold e × LanesRest K J failed;
 }

@@ -14,28 +14,34 @@ use Rattle.ledger_runs.specs.Pieces.{HasBegun}
 use Rattle.file_runs.specs.Runs.{IsSentPiece, HavePreparedFiles, HaveBegunFile}
 
 -- the lane has run all that it got, or met a fault of its own, which has its cause; that memory ran out for it is one, too
-abbrev pub HasRunOrMet : Shape → ℕ → List Compact → (List Compact → Type 0) → (ℕ → List Record) → (ℕ → List Record) → (ℕ → Type 0) → (ℕ → ℕ → Type 0) → Type 0
+abbrev pub HasRunOrMet : Shape → ℕ → List Compact → (List Compact → Type 0) → (ℕ → List Record) → (ℕ → List Record) → (ℕ → Type 0) → (ℕ → ℕ → Type 0)
+    → Type 0
 HasRunOrMet K lane all next I J failed may_hold = LaneHasRun K lane all I J ⊎ ((own : LaneFault) × IsLaneCause K lane next I J failed may_hold own)
 
 -- it is the fault of the least lane that met one, each lesser lane has run all that a file sends it, and each greater one has, too, or met a fault of
 -- its own
-pub record EndsWave (K : Shape) (sent : ℕ → List Compact) (next : ℕ → List Compact → Type 0) (I J : ℕ → List Record) (failed : ℕ → Type 0) (may_hold : ℕ → ℕ → Type 0) (e : LaneFault) : Type 0 where
+pub record EndsWave (K : Shape) (sent : ℕ → List Compact) (next : ℕ → List Compact → Type 0) (I J : ℕ → List Record) (failed : ℕ → Type 0)
+    (may_hold : ℕ → ℕ → Type 0) (e : LaneFault) : Type 0 where
   pub least : IsLeastFault K sent next I J failed may_hold e
   pub greater : (lane : ℕ) → IsLaneOf K lane → least.lane < lane → HasRunOrMet K lane (sent lane) (next lane) I J failed may_hold
 
 -- a file's: memory ran out before its wave, or `EndsWave`
 abbrev pub EndsFile : Shape → VerdictsOf → List FullTx → (ℕ → List Record) → (ℕ → List Record) → (ℕ → Type 0) → (ℕ → ℕ → Type 0) → LaneFault → Type 0
 EndsFile K verdicts file I J failed may_hold e =
-    IsUnbegunForMemory I J e ⊎ ((sound : FullTx → Bool) → TellsSound verdicts sound → EndsWave K (sent_to K sound file) (IsSentPiece K verdicts file I J) I J failed may_hold e)
+    IsUnbegunForMemory I J e ⊎ ((sound : FullTx → Bool) → TellsSound verdicts sound
+    → EndsWave K (sent_to K sound file) (IsSentPiece K verdicts file I J) I J failed may_hold e)
 
 -- the first of more files; without one memory ran out and nothing was done; no lane has prepared anything of the files behind it, only the first
 -- pieces of what it sends
-abbrev pub EndsFirst : Shape → VerdictsOf → List (List FullTx) → (ℕ → List Record) → (ℕ → List Record) → (ℕ → Type 0) → (ℕ → ℕ → Type 0) → LaneFault → Type 0
+abbrev pub EndsFirst : Shape → VerdictsOf → List (List FullTx) → (ℕ → List Record) → (ℕ → List Record) → (ℕ → Type 0) → (ℕ → ℕ → Type 0) → LaneFault
+    → Type 0
 EndsFirst K verdicts [] I J failed may_hold e = IsUnbegunForMemory I J e
-EndsFirst K verdicts (file ∷ more) I J failed may_hold e = EndsFile K verdicts file I J failed may_hold e × (0 < K.batch → HaveBegunFile K verdicts file I J)
+EndsFirst K verdicts (file ∷ more) I J failed may_hold e = EndsFile K verdicts file I J failed may_hold e
+    × (0 < K.batch → HaveBegunFile K verdicts file I J)
 
 -- of files from journals I to J: those before have been run by all lanes, which were idle then, and the first of those behind them was ended
-pub record EndsFiles (K : Shape) (verdicts : VerdictsOf) (files : List (List FullTx)) (I J : ℕ → List Record) (failed : ℕ → Type 0) (may_hold : ℕ → ℕ → Type 0) (e : LaneFault) : Type 0 where
+pub record EndsFiles (K : Shape) (verdicts : VerdictsOf) (files : List (List FullTx)) (I J : ℕ → List Record) (failed : ℕ → Type 0)
+    (may_hold : ℕ → ℕ → Type 0) (e : LaneFault) : Type 0 where
   pub done : List (List FullTx)
   pub more : List (List FullTx)
   pub are : files ≡ done ++ more

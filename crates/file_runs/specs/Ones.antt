@@ -24,6 +24,8 @@ ResumeLeft K o (Ok r) log I log' J = IsOneTaken K true o log I log' J r
 ResumeLeft K o (Err e) log I log' J = IsResumeStopped K true o log I log' J e
 
 -- so it was at these nodes of a ledger
-abbrev pub LaneResumes : {D : Type 0} → Shape → ℕ → OpenLane → Result ResumedBatch LaneFault → List (NodeOf D) → List (NodeOf D) → List (NodeOf D) → List (NodeOf D) → Type 0
+abbrev pub LaneResumes : {D : Type 0} → Shape → ℕ → OpenLane → Result ResumedBatch LaneFault → List (NodeOf D) → List (NodeOf D) → List (NodeOf D)
+    → List (NodeOf D) → Type 0
 LaneResumes K lane o came logs shards logs' shards' =
-    ResumeLeft K o came (sight_at sight logs (home_of K lane)) (sight_at sight shards) (sight_at sight logs' (home_of K lane)) (sight_at sight shards')
+    ResumeLeft K o came (sight_at sight logs (home_of K lane)) (sight_at sight shards) (sight_at sight logs' (home_of K lane))
+    (sight_at sight shards')

@@ -9,7 +9,8 @@ use Rattle.ledger_runs.specs.Turning.{IsLaneOf, OfKept, StaysKept}
 use Rattle.ledger_runs.specs.Pieces.{HasPreparedPieces}
 use Rattle.ledger_runs.specs.Flying.{Launches}
 use Rattle.ledger_runs.specs.Faults.{IsRunCause, HaveFailed, MayHoldBytes}
-use Rattle.file_runs.specs.Ledgers.{LedgerOf, ledger_journals, ledger_flights, ledger_faults, ledger_opened, ledger_capacity, IsChecked, IsLedgerStored, IsLedgerQuiet}
+use Rattle.file_runs.specs.Ledgers.{LedgerOf, ledger_journals, ledger_flights, ledger_faults, ledger_opened, ledger_capacity, IsChecked}
+use Rattle.file_runs.specs.Ledgers.{IsLedgerStored, IsLedgerQuiet}
 use Rattle.file_runs.specs.Runs.{FliesWith}
 
 -- what contracts see of a ledger's nodes: of each its journal, its record in flight, how often its disk has failed and had when it was opened, and how
@@ -96,9 +97,11 @@ pub record Joint {A B : Type 0} (d : Deed A) (e : Deed B) (K : Shape) (x : A) (E
 -- one deed and another behind it are a third: what is next, begun, done and at fault in these is so in that
 pub record Joins {A B C : Type 0} (d : Deed A) (e : Deed B) (c : Deed C) (x : A) (gives : B → C → Type 0) : Type 1 where
   pub handed : d.handed ++ e.handed ≡ c.handed
-  pub next_still : (K : Shape) (E M X : ℕ → List Record) (lane : ℕ) (txs : List Compact) → Joint d e K x E M X → IsLaneOf K lane → HasPreparedPieces K lane [] M X
+  pub next_still : (K : Shape) (E M X : ℕ → List Record) (lane : ℕ) (txs : List Compact) → Joint d e K x E M X → IsLaneOf K lane
+      → HasPreparedPieces K lane [] M X
       → d.next K E M lane txs → c.next K E X lane txs
-  pub next_then : (K : Shape) (E M X : ℕ → List Record) (lane : ℕ) (txs : List Compact) → Joint d e K x E M X → IsLaneOf K lane → e.next K M X lane txs → c.next K E X lane txs
+  pub next_then : (K : Shape) (E M X : ℕ → List Record) (lane : ℕ) (txs : List Compact) → Joint d e K x E M X → IsLaneOf K lane
+      → e.next K M X lane txs → c.next K E X lane txs
   pub begun : (K : Shape) (E M X : ℕ → List Record) → Joint d e K x E M X → c.begun K E X
   pub did : (K : Shape) (E M X : ℕ → List Record) (y : B) (z : C) → Joint d e K x E M X → gives y z → e.did K M X y → c.did K E X z
   pub ends : (K : Shape) (E M X : ℕ → List Record) (failed : ℕ → Type 0) (may_hold : ℕ → ℕ → Type 0) (f : LaneFault) → Joint d e K x E M X

@@ -27,7 +27,8 @@ TellFiles K verdicts (file ∷ files) I J ws =
     (M : ℕ → List Record) × (w : Wave) × (more : List Wave) × (ws ≡ w ∷ more) × TellsFile K verdicts file I M w × TellFiles K verdicts files M J more
 
 -- from journals E at entry to X: the batches that were open, none of which was prepared newly, and of each file the outcomes of its submissions
-pub record TellsRun (K : Shape) (verdicts : VerdictsOf) (files : List (List FullTx)) (E X : ℕ → List Record) (resumed : List ResumedBatch) (waves : List Wave) : Type 0 where
+pub record TellsRun (K : Shape) (verdicts : VerdictsOf) (files : List (List FullTx)) (E X : ℕ → List Record) (resumed : List ResumedBatch)
+    (waves : List Wave) : Type 0 where
   pub middle : ℕ → List Record
   pub grows : (n : ℕ) → IsEnd (E n) (middle n)
   pub batches : TellResumed K E middle (K.coordinators * K.lanes) resumed

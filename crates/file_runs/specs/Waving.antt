@@ -10,7 +10,8 @@ use Rattle.ledger_runs.specs.Lanes.{LaneOf}
 use Rattle.thread_laws.specs.Running.{WaveRan}
 use Rattle.thread_laws.specs.Whole.{WaveSays}
 use Rattle.lane_waves.specs.Laws.{WentOn}
-use Rattle.file_runs.specs.Ledgers.{LedgerOf, IsLedger, FliesNext, ledger_journals, ledger_flights, ledger_faults, ledger_opened, ledger_capacity, IsChecked, IsLedgerQuiet, KeepsLedgerOf}
+use Rattle.file_runs.specs.Ledgers.{LedgerOf, IsLedger, FliesNext, ledger_journals, ledger_flights, ledger_faults, ledger_opened, ledger_capacity}
+use Rattle.file_runs.specs.Ledgers.{IsChecked, IsLedgerQuiet, KeepsLedgerOf}
 
 -- from a ledger to what it is behind the wave: it is a ledger still; all that is said of a wave; checked journals stay checked; where no lane stopped,
 -- and nothing was in flight before, nothing is; and what a call keeps of a ledger's nodes is kept
@@ -29,6 +30,7 @@ module _ {D : Type 0} (device : Ghosts D) (h : Header) (logs shards : List (Node
   abbrev pub LedgerWaveLaw : Type 0
   LedgerWaveLaw = IsLedger h logs shards → length old ≡ h.shape.coordinators * h.shape.lanes
       → WaveRan h.shape (sight_at sight logs) (sight_at sight shards) (sight_at sight logs') (sight_at sight shards') old new
-      → WentOn sight (λ a b. IsNodeHeld device a → IsNodeHeld device b) logs logs' → WentOn sight (λ a b. IsNodeHeld device a → IsNodeHeld device b) shards shards'
+      → WentOn sight (λ a b. IsNodeHeld device a → IsNodeHeld device b) logs logs'
+      → WentOn sight (λ a b. IsNodeHeld device a → IsNodeHeld device b) shards shards'
       → All (λ l. IsJournal l.header l.journal) logs' → All FliesNext logs' → All (λ s. IsJournal s.header s.journal) shards' → All FliesNext shards'
       → IsWave device (record { header = h; logs = logs; shards = shards }) (record { header = h; logs = logs'; shards = shards' }) old new

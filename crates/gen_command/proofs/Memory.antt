@@ -1,5 +1,6 @@
 -- Nodes in memory: their disks never fail, and have room for a workload's first records.
-use Rattle.std.proofs.Common.{◌≡◌, ◌⊎◌, inl, inr, ◌+◌, ◌-◌, ◌*◌, ◌^◌, ◌<◌, ◌≤◌, ℕ, zero, suc, Bool, true, false, nat_lt, if◌then◌else◌, List, [], ◌++◌, length, map, get_or, Option, Some, None, refl, ap, subst, arith}
+use Rattle.std.proofs.Common.{◌≡◌, ◌⊎◌, inl, inr, ◌+◌, ◌-◌, ◌*◌, ◌^◌, ◌<◌, ◌≤◌, ℕ, zero, suc, Bool, true, false, nat_lt, if◌then◌else◌, List, []}
+use Rattle.std.proofs.Common.{◌++◌, length, map, get_or, Option, Some, None, refl, ap, subst, arith}
 use Rattle.std.specs.Prelude.{slice_get}
 use Rattle.std.specs.List.{range_with_len, All}
 use Rattle.std.proofs.lemmas.Option.{slice_get_cases}
@@ -45,7 +46,8 @@ there rack all n low = go ((slice_get_cases rack.places.items n).1)
     in_place None is = absurd (subst HasNoDiskOut is (all n))
     in_place (Some d) is = (d, ap disk_in is)
 
-    go : ((x : Option PlainMirror) × (n < length rack.places.items) × (slice_get rack.places.items n ≡ Some x) × (get_or rack.places.items n x ≡ x)) ⊎ ((length rack.places.items ≤ n) × (slice_get rack.places.items n ≡ None)) → (d : PlainMirror) × (mirror_at rack n ≡ Some d)
+    go : ((x : Option PlainMirror) × (n < length rack.places.items) × (slice_get rack.places.items n ≡ Some x) × (get_or rack.places.items n x ≡ x))
+        ⊎ ((length rack.places.items ≤ n) × (slice_get rack.places.items n ≡ None)) → (d : PlainMirror) × (mirror_at rack n ≡ Some d)
     go (inl (x, inside, is, same)) = in_place x is
     go (inr (past, is)) = absurd (let whole = rack.whole in omega (arith, low, past, whole))
 
@@ -109,7 +111,8 @@ module _ (K : Shape) (seed n : ℕ) (small : n ≤ 10000) where
 
   total_fits : value_out (mint_of seed n) < 2 ^ 64
   total_fits =
-      let each : All (λ o. o.value ≤ 101) (mint_of seed n) = All-map (λ o. o.value ≤ 101) (coin seed) (range_with_len 0 (minted_of n)) (λ k d lt. low_value _) in
+      let each : All (λ o. o.value ≤ 101) (mint_of seed n) =
+      All-map (λ o. o.value ≤ 101) (coin seed) (range_with_len 0 (minted_of n)) (λ k d lt. low_value _) in
       let sum = sum_by-le (λ o. o.value) 101 (mint_of seed n) each in
       let few = minted_few in
       omega (arith, sum, few, small)
@@ -117,7 +120,9 @@ module _ (K : Shape) (seed n : ℕ) (small : n ≤ 10000) where
   first_fits : (node : ℕ) → size_of (first_record_of K (mint_of seed n) node) + 1 ≤ 4096 + 400 * n
   first_fits node = go (nat_lt node K.coordinators)
     where
-      go : (b : Bool) → size_of (if b then Start (header_of K (genesis_id (mint_of seed n)) node) else Genesis (header_of K (genesis_id (mint_of seed n)) node) (on_shard K.shards (node - K.coordinators) (genesis_hashes (mint_of seed n)))) + 1 ≤ 4096 + 400 * n
+      go : (b : Bool) → size_of (if b then Start (header_of K (genesis_id (mint_of seed n)) node)
+          else Genesis (header_of K (genesis_id (mint_of seed n)) node)
+          (on_shard K.shards (node - K.coordinators) (genesis_hashes (mint_of seed n)))) + 1 ≤ 4096 + 400 * n
       go true = omega arith
       go false =
           let here = on_length K.shards (node - K.coordinators) (genesis_hashes (mint_of seed n)) in
@@ -156,9 +161,20 @@ module _ (K : Shape) (seed n : ℕ) (small : n ≤ 10000) where
       each_small f each k zero = tt
       each_small f each k (suc m) = (each k, each_small f each (k + 1) m)
 
-  pub workload_fits : (replicas : ℕ) (rack : MirrorRack) → IsWithinLimits K → AreMirrorsEmpty K replicas n rack → HaveRoomForFiles K (mint_of seed n) (files_of seed n) rack
+  pub workload_fits : (replicas : ℕ) (rack : MirrorRack) → IsWithinLimits K → AreMirrorsEmpty K replicas n rack
+      → HaveRoomForFiles K (mint_of seed n) (files_of seed n) rack
   workload_fits replicas rack limits empty =
-      new_room K (minted (mint_of seed n)) (sound_by all_good) (λ node. limit_at plain_mirror (mirror_at rack node)) (files_of seed n) limits small_files (omega (arith, all_many, small)) (
-        (λ node low. (let e = empty node (omega (arith, low)) in omega (arith, all_many, ap (limit_at plain_mirror) e.1, empty_limit (copies_at K.coordinators replicas node) (4096 + 400 * n) e.0 e.2))),
-        (λ node high inside. (let e = empty node inside in omega (arith, all_many, minted_many, minted_few, ap (limit_at plain_mirror) e.1, empty_limit (copies_at K.coordinators replicas node) (4096 + 400 * n) e.0 e.2))),
+      new_room K (minted (mint_of seed n)) (sound_by all_good) (λ node. limit_at plain_mirror (mirror_at rack node)) (files_of seed n) limits
+      small_files (omega (arith, all_many, small)) (
+        (λ node low. (let e = empty node (omega (arith, low)) in
+            omega (arith, all_many, ap (limit_at plain_mirror) e.1, empty_limit (copies_at K.coordinators replicas node) (4096 + 400 * n) e.0 e.2))),
+        (λ node high inside. (let e = empty node inside in
+            omega (
+              arith,
+              all_many,
+              minted_many,
+              minted_few,
+              ap (limit_at plain_mirror) e.1,
+              empty_limit (copies_at K.coordinators replicas node) (4096 + 400 * n) e.0 e.2,
+            ))),
       )

@@ -27,7 +27,9 @@ use Rattle.gen_command.specs.Generated.{all_good, files_of, all_submissions, mad
 use Rattle.run_lines.proofs.Numbers.{lanes_there}
 use Rattle.gen_command.proofs.Refused.{none_in}
 
-module _ (K : Shape) (seed n : ℕ) (X : ℕ → List Record) (all_won : (k j : ℕ) (t : FullTx) (it : IsSent all_good (files_of seed n) k j t) → IsSubmissionConfirmed K all_good (files_of seed n) (made_for K seed n) X k it.file j t) where
+module _ (K : Shape) (seed n : ℕ) (X : ℕ → List Record)
+    (all_won : (k j : ℕ) (t : FullTx) (it : IsSent all_good (files_of seed n) k j t)
+    → IsSubmissionConfirmed K all_good (files_of seed n) (made_for K seed n) X k it.file j t) where
   abbrev E : ℕ → List Record
   E = made_for K seed n
 
@@ -45,7 +47,8 @@ module _ (K : Shape) (seed n : ℕ) (X : ℕ → List Record) (all_won : (k j : 
     none_rejected : length (filter is_rejected rs) ≡ 0
     none_rejected = none_in is_rejected rs not_rejected
 
-  pub rejected_none : (all : List (List Report)) → AreAllReports K all_good (sound_by all_good) (made_for K seed n) X (files_of seed n) all → count_in is_rejected all ≡ 0
+  pub rejected_none : (all : List (List Report)) → AreAllReports K all_good (sound_by all_good) (made_for K seed n) X (files_of seed n) all
+      → count_in is_rejected all ≡ 0
   rejected_none [] are = refl
   rejected_none (one ∷ []) are = absurd (let c = are.count in omega (arith, c))
   rejected_none (one ∷ two ∷ []) are =
@@ -56,15 +59,19 @@ module _ (K : Shape) (seed n : ℕ) (X : ℕ → List Record) (all_won : (k j : 
   rejected_none (one ∷ two ∷ (three ∷ more)) are = absurd (let c = are.count in omega (arith, c))
 
 module _ (K : Shape) (seed n : ℕ) (limits : IsWithinLimits K) (clean : Clean (mint_of seed n) (all_submissions seed n)) (X : ℕ → List Record)
-    (kept : KeptJournals K (mint_of seed n) (all_submissions seed n) X) (waves : Waves K (sound_by all_good) (files_of seed n) (made_for K seed n) X) where
-  whole : IsWorkloadWhole K seed n X
-  whole = whole_law K seed n X limits.some_shard limits.some_lane (lanes_there K limits) clean kept waves
+    (kept : KeptJournals K (mint_of seed n) (all_submissions seed n) X) (waves : Waves K (sound_by all_good) (files_of seed n) (made_for K seed n) X)
+  where
+    whole : IsWorkloadWhole K seed n X
+    whole = whole_law K seed n X limits.some_shard limits.some_lane (lanes_there K limits) clean kept waves
 
-  pub one_text : (summary : Text) → EndsWorkload K seed n X summary → (totals : Totals) → HasVerdictOf K (mint_of seed n) (all_submissions seed n) X (Sound totals) → summary ++ audit_text totals ≡ summary_text 0 (batches_for K n) n 0 0 (left_of n) ++ audit_text (totals_of seed n)
-  one_text summary ends totals audited =
-      let none : count_in is_rejected ends.all ≡ 0 = rejected_none K seed n X whole.confirmed ends.all ends.are in
-      let all : count_in is_confirmed ends.all ≡ n = (let d = ends.decided in omega (arith, d, none)) in
-      let left : ends.unspent ≡ left_of n = whole.unspent ends.unspent ends.counted in
-      let sums : totals ≡ totals_of seed n = whole.totals audited.rows totals audited.journals_are audited.ordered audited.is in
-      let numbers : summary ≡ summary_text 0 (batches_for K n) n 0 0 (left_of n) = ends.text_is ∙ (λ i. summary_text 0 (batches_for K n) (all i) (none i) 0 (left i)) in
-      λ i. numbers i ++ audit_text (sums i)
+    pub one_text : (summary : Text) → EndsWorkload K seed n X summary → (totals : Totals)
+        → HasVerdictOf K (mint_of seed n) (all_submissions seed n) X (Sound totals)
+        → summary ++ audit_text totals ≡ summary_text 0 (batches_for K n) n 0 0 (left_of n) ++ audit_text (totals_of seed n)
+    one_text summary ends totals audited =
+        let none : count_in is_rejected ends.all ≡ 0 = rejected_none K seed n X whole.confirmed ends.all ends.are in
+        let all : count_in is_confirmed ends.all ≡ n = (let d = ends.decided in omega (arith, d, none)) in
+        let left : ends.unspent ≡ left_of n = whole.unspent ends.unspent ends.counted in
+        let sums : totals ≡ totals_of seed n = whole.totals audited.rows totals audited.journals_are audited.ordered audited.is in
+        let numbers : summary ≡ summary_text 0 (batches_for K n) n 0 0 (left_of n) =
+        ends.text_is ∙ (λ i. summary_text 0 (batches_for K n) (all i) (none i) 0 (left i)) in
+        λ i. numbers i ++ audit_text (sums i)

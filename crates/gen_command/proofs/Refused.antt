@@ -1,5 +1,6 @@
 -- Of a workload nothing was open before, and no transaction is refused.
-use Rattle.std.proofs.Common.{◌≡◌, ◌+◌, ◌*◌, ◌<◌, ℕ, zero, suc, Bool, true, false, if◌then◌else◌, List, [], ◌∷◌, length, Some, refl, ap, ◌∙◌, subst, arith}
+use Rattle.std.proofs.Common.{◌≡◌, ◌+◌, ◌*◌, ◌<◌, ℕ, zero, suc, Bool, true, false, if◌then◌else◌, List, [], ◌∷◌, length, Some, refl, ap, ◌∙◌, subst}
+use Rattle.std.proofs.Common.{arith}
 use Rattle.std.specs.Prelude.{slice_get, is_some, not, All}
 use Rattle.std.specs.List.{filter}
 use Rattle.std.proofs.lemmas.List.FromFn.{length-map-range_with_len}
@@ -31,7 +32,8 @@ module _ (K : Shape) (seed n : ℕ) (some : 0 < K.shards) where
   none_below (suc lane) =
       let home = home_of K lane in
       let rest = none_below lane in
-      let first = nothing (made_for K seed n home) (journal_first home (first_rows K (minted (mint_of seed n))) (all_first K (minted (mint_of seed n)) (λ (k : Compact). Unit {0}) some)) in
+      let first = nothing (made_for K seed n home)
+      (journal_first home (first_rows K (minted (mint_of seed n))) (all_first K (minted (mint_of seed n)) (λ (k : Compact). Unit {0}) some)) in
       let here : one_open (slot (made_for K seed n home) lane).phase ≡ 0 = ap one_open (first.phase lane) in
       omega (arith, rest, here)
 
@@ -40,7 +42,8 @@ module _ (K : Shape) (seed n : ℕ) (some : 0 < K.shards) where
 
 -- ---- none is refused
 
-pub none_in : (test : Report → Bool) (rs : List Report) → ((i : ℕ) (r : Report) → slice_get rs i ≡ Some r → test r ≡ false) → length (filter test rs) ≡ 0
+pub none_in : (test : Report → Bool) (rs : List Report) → ((i : ℕ) (r : Report) → slice_get rs i ≡ Some r → test r ≡ false)
+    → length (filter test rs) ≡ 0
 none_in test [] none = refl
 none_in test (r ∷ rs) none =
     ap (λ b. length (if b then r ∷ filter test rs else filter test rs)) (none 0 r refl) ∙ none_in test rs (λ i q at. none (suc i) q at)
@@ -51,13 +54,15 @@ each_one [] = refl
 each_one (Refused why ∷ rs) = let rest = each_one rs in omega (arith, rest)
 each_one (Decided batch outcome ∷ rs) =
     let rest = each_one rs in
-    elim (is_won outcome) as (λ b. length (if b then Decided batch outcome ∷ filter is_confirmed rs else filter is_confirmed rs) + length (if not b then Decided batch outcome ∷ filter is_rejected rs else filter is_rejected rs)
+    elim (is_won outcome) as (λ b. length (if b then Decided batch outcome ∷ filter is_confirmed rs else filter is_confirmed rs)
+    + length (if not b then Decided batch outcome ∷ filter is_rejected rs else filter is_rejected rs)
     + length (filter is_refused rs) ≡ suc (length rs)) [
       | true ↦ omega (arith, rest)
       | false ↦ omega (arith, rest)
     ]
 
-module _ (K : Shape) (E X : ℕ → List Record) (earlier : List (List FullTx)) (file : List FullTx) (rs : List Report) (good : All IsGood file) (are : AreReports K all_good (sound_by all_good) E X earlier file rs) where
+module _ (K : Shape) (E X : ℕ → List Record) (earlier : List (List FullTx)) (file : List FullTx) (rs : List Report) (good : All IsGood file)
+    (are : AreReports K all_good (sound_by all_good) E X earlier file rs) where
   not_refused : (i : ℕ) (r : Report) → slice_get rs i ≡ Some r → is_refused r ≡ false
   not_refused i (Decided batch outcome) at = refl
   not_refused i (Refused why) at =
@@ -96,5 +101,6 @@ module _ (K : Shape) (seed n : ℕ) (E X : ℕ → List Record) where
   pub none_refused : (all : List (List Report)) → AreAllReports K all_good (sound_by all_good) E X (files_of seed n) all → count_in is_refused all ≡ 0
   none_refused all are = (two_counts all are).0
 
-  pub all_decided : (all : List (List Report)) → AreAllReports K all_good (sound_by all_good) E X (files_of seed n) all → count_in is_confirmed all + count_in is_rejected all ≡ n
+  pub all_decided : (all : List (List Report)) → AreAllReports K all_good (sound_by all_good) E X (files_of seed n) all
+      → count_in is_confirmed all + count_in is_rejected all ≡ n
   all_decided all are = (two_counts all are).1

@@ -12,11 +12,14 @@ pub few : (seed n : ℕ) → n ≤ 10000 → length (mint_of seed n) ≤ 1000000
 few seed n small = omega (arith, small, length-map-range_with_len (coin seed) 0 (minted_of n))
 
 splits : (seed n : ℕ) → All IsShort (splits_of seed n)
-splits seed n = All-map IsShort (split_of seed n (genesis_id (mint_of seed n))) (range_with_len 0 (minted_of n)) (λ k d lt. record { inputs = omega arith; outputs = omega arith })
+splits seed n = All-map IsShort (split_of seed n (genesis_id (mint_of seed n))) (range_with_len 0 (minted_of n))
+    (λ k d lt. record { inputs = omega arith; outputs = omega arith })
 
 joins : (seed n : ℕ) → All IsShort (joins_of seed n)
-joins seed n = All-map IsShort (join_of seed n (genesis_id (mint_of seed n))) (range_with_len 0 (joined_of n)) (λ k d lt. record { inputs = omega arith; outputs = omega arith })
+joins seed n = All-map IsShort (join_of seed n (genesis_id (mint_of seed n))) (range_with_len 0 (joined_of n))
+    (λ k d lt. record { inputs = omega arith; outputs = omega arith })
 
 pub both : (seed n : ℕ) → All (λ txs. All IsShort txs) (splits_of seed n ∷ joins_of seed n ∷ [])
 both seed n =
-    All-cons (λ txs. All IsShort txs) (splits_of seed n) (joins_of seed n ∷ []) (splits seed n) (All-cons (λ txs. All IsShort txs) (joins_of seed n) [] (joins seed n) (All-nil (λ txs. All IsShort txs)))
+    All-cons (λ txs. All IsShort txs) (splits_of seed n) (joins_of seed n ∷ []) (splits seed n)
+    (All-cons (λ txs. All IsShort txs) (joins_of seed n) [] (joins seed n) (All-nil (λ txs. All IsShort txs)))

@@ -67,7 +67,8 @@ sent_of K m lane = length (share (K.coordinators * K.lanes) lane 0 (range_with_l
 -- how many batches the lanes below a number cut the two files of n transactions into
 abbrev pub cut_below : Shape → ℕ → ℕ → ℕ
 cut_below K n zero = 0
-cut_below K n (suc lane) = cut_below K n lane + (rounded_up (sent_of K (minted_of n) lane) K.batch + rounded_up (sent_of K (joined_of n) lane) K.batch)
+cut_below K n (suc lane) = cut_below K n lane + (rounded_up (sent_of K (minted_of n) lane) K.batch
+    + rounded_up (sent_of K (joined_of n) lane) K.batch)
 
 -- how many batches all lanes cut the two files of n transactions into
 abbrev pub batches_for : Shape → ℕ → ℕ
@@ -116,7 +117,8 @@ PrintsWorkload printed K seed n options = (text : Text) × IsWorkloadText K seed
 pub record IsUnsoundWorkload (K : Shape) (seed n : ℕ) (watch : Bool) (place : ℕ) (kind : UnsoundKind) : Type 0 where
   pub exit : ℕ → List Record
   pub run : IsWorkloadRun K seed n exit
-  pub audited : HasVerdictOf K (mint_of seed n) (all_submissions seed n) exit (Unsound place kind) ⊎ ((watch ≡ true) × HasCut K seed n exit (UnsoundPart place kind))
+  pub audited : HasVerdictOf K (mint_of seed n) (all_submissions seed n) exit (Unsound place kind)
+      ⊎ ((watch ≡ true) × HasCut K seed n exit (UnsoundPart place kind))
   pub unclean : Clean (mint_of seed n) (all_submissions seed n) → ⊥
 
 -- why a workload was not done: its audit found something wrong, or memory ran out. No other answer comes: the workload fits, its nodes in memory have

@@ -37,7 +37,8 @@ mirror_disks rack = record { held = mirror_at rack; faults = faults_at rack.miss
 pub record AreDisksReady (K : Shape) (mint : List Output) (rack : MirrorRack) : Type 0 where
   pub limits : IsWithinLimits K
   pub fits : value_out mint < 2 ^ 64
-  pub empty : (node : ℕ) → node < node_count K → (d : PlainMirror) × (mirror_at rack node ≡ Some d) × (plain_mirror.content d ≡ Some []) × (size_of (first_record_of K mint node) + 1 ≤ plain_mirror.limit d)
+  pub empty : (node : ℕ) → node < node_count K → (d : PlainMirror) × (mirror_at rack node ≡ Some d) × (plain_mirror.content d ≡ Some [])
+      × (size_of (first_record_of K mint node) + 1 ≤ plain_mirror.limit d)
 
 -- each node's mirror is of so many empty disks, one for a coordinator and so many more for a shard, with room for so many transactions
 abbrev pub AreMirrorsEmpty : Shape → ℕ → ℕ → MirrorRack → Type 0

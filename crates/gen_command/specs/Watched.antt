@@ -85,7 +85,8 @@ IfSeenFirst (w ∷ more) P = IfSaw w.looks P
 abbrev pub IsCutTold : Shape → List Output → List FullTx → List Wave → Bool → Option ℕ → Type 0
 IsCutTold K mint handed waves false None = Unit {0}
 IsCutTold K mint handed waves true (Some value) =
-    (lists : List (Vec Record)) × IsSeenFirst waves lists × (part : Part) × IsCutVerdict K mint handed (lists_in lists) (Sound part) × (value ≡ part.value)
+    (lists : List (Vec Record)) × IsSeenFirst waves lists × (part : Part) × IsCutVerdict K mint handed (lists_in lists) (Sound part)
+    × (value ≡ part.value)
 IsCutTold K mint handed waves watch value = ⊥
 
 -- why there is none: memory ran out, or this is wrong with that cut

@@ -204,7 +204,8 @@ fn run_workload<W: Wait + Threads + Sync, G: Gate + Sync>(
 /// cut of what it saw is printed last.
 ///
 /// Where it comes through: the rack is as it was. The text is that of a run of the workload between kept journals and of a sound audit of them; where
-/// no hashes of the workload clash it is one text for every schedule, with all transactions confirmed (clause `did` of `process`).
+/// no hashes of the workload clash it is one text for every schedule, with all transactions confirmed, and the value of the cut is what was minted
+/// (clause `did` of `process`).
 pub fn generated<W: Wait + Threads + Sync, O: Sink, G: Gate + Sync>(
     rt: &W,
     alloc: Global,

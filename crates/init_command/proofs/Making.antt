@@ -19,12 +19,16 @@ use Rattle.ledger_laws.proofs.FirstJournals.{first_is}
 use Rattle.init_command.specs.Outcomes.{DidInit}
 use Rattle.submission_laws.specs.Files.{mint_journals}
 
-module _ {D : Type 0} (device : Ghosts D) (files : Text → Option (List ℕ)) (before after : Disks D) (shape : Shape) (file : FileWord) (mint : List Output)
+module _ {D : Type 0} (device : Ghosts D) (files : Text → Option (List ℕ)) (before after : Disks D) (shape : Shape) (file : FileWord)
+    (mint : List Output)
     (read : Tells (files file.name.now) (λ c. mint_of_file c ≡ Ok mint)) where
-  pub made_did : {E : Type 0} (r : Result Made E) → IfOk r (λ m. (m.coins ≡ length mint) × (m.total ≡ value_out mint) × (m.genesis ≡ genesis_id mint)) → OnOk r (MayBeMade shape mint device before.held)
+  pub made_did : {E : Type 0} (r : Result Made E)
+      → IfOk r (λ m. (m.coins ≡ length mint) × (m.total ≡ value_out mint) × (m.genesis ≡ genesis_id mint))
+      → OnOk r (MayBeMade shape mint device before.held)
       → OnOk r ((n : ℕ) → n < node_count shape → HasPlaceFor shape mint device before.held n)
       → OnOk r ((n : ℕ) → n < node_count shape → HoldsFirst device (first_record_of shape mint n) (before.held n) (after.held n))
-      → OnOk r ((n : ℕ) → n < node_count shape → SameRoom device (before.held n) (after.held n)) → ((n : ℕ) → node_count shape ≤ n → after.held n ≡ before.held n)
+      → OnOk r ((n : ℕ) → n < node_count shape → SameRoom device (before.held n) (after.held n))
+      → ((n : ℕ) → node_count shape ≤ n → after.held n ≡ before.held n)
       → IfOk r (λ m. DidInit device files before after (λ text. init_text m.coins m.total m.genesis ≡ text) shape file)
   made_did (Ok m) made was places holds rooms outside = record {
     mint = mint;
@@ -39,6 +43,7 @@ module _ {D : Type 0} (device : Ghosts D) (files : Text → Option (List ℕ)) (
     rooms = rooms;
     outside = outside;
     kept = record { later = []; history = record { ordered = tt; journals_are = λ n. refl }; kept = tt };
-    prints = ap (λ (n : ℕ). init_text n m.total m.genesis) made.0 ∙ ap (λ (n : ℕ). init_text (length mint) n m.genesis) made.1 ∙ ap (init_text (length mint) (value_out mint)) made.2;
+    prints = ap (λ (n : ℕ). init_text n m.total m.genesis) made.0 ∙ ap (λ (n : ℕ). init_text (length mint) n m.genesis) made.1
+        ∙ ap (init_text (length mint) (value_out mint)) made.2;
   }
   made_did (Err e) made was places holds rooms outside = tt

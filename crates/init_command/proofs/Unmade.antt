@@ -15,7 +15,8 @@ use Rattle.command_answers.specs.Left.{IsBeforeDisks}
 use Rattle.init_command.specs.Outcomes.{InitLeaves}
 
 -- of these answers a ledger that is not made gives one alone
-too_much_alone : {D : Type 0} (K : Shape) (mint : List Output) (device : Ghosts D) (held : ℕ → Option D) (before now : ℕ → ℕ) (P : Type 0) (a : Answer)
+too_much_alone : {D : Type 0} (K : Shape) (mint : List Output) (device : Ghosts D) (held : ℕ → Option D) (before now : ℕ → ℕ) (P : Type 0)
+    (a : Answer)
     → IsUnmade K mint device held before now a → ((total : ℕ) → a ≡ answers.TooMuch total → P) → IsBeforeDisks a → P
 too_much_alone K mint device held before now P answers.Ok un same is = absurd is
 too_much_alone K mint device held before now P answers.BadWords un same is = absurd un
@@ -33,12 +34,16 @@ too_much_alone K mint device held before now P answers.WriteFault un same is = a
 too_much_alone K mint device held before now P (answers.DiskFault k) un same is = absurd is
 too_much_alone K mint device held before now P answers.Memory un same is = absurd is
 
-pub unmade_same : {D T : Type 0} (K : Shape) (mint : List Output) (device : Ghosts D) (held : ℕ → Option D) (before now : ℕ → ℕ) (P : Type 0) (r : Result T Answer)
-    → IfErr r (IsUnmade K mint device held before now) → IfErr r (λ e. (total : ℕ) → e ≡ answers.TooMuch total → P) → IfErr r (λ e. IsBeforeDisks e → P)
+pub unmade_same : {D T : Type 0} (K : Shape) (mint : List Output) (device : Ghosts D) (held : ℕ → Option D) (before now : ℕ → ℕ) (P : Type 0)
+    (r : Result T Answer)
+    → IfErr r (IsUnmade K mint device held before now) → IfErr r (λ e. (total : ℕ) → e ≡ answers.TooMuch total → P)
+    → IfErr r (λ e. IsBeforeDisks e → P)
 unmade_same K mint device held before now P (Ok made) un same = tt
 unmade_same K mint device held before now P (Err e) un same = too_much_alone K mint device held before now P e un same
 
-pub unmade_left : {D T : Type 0} (device : Ghosts D) (before after : Scene D) (shape : Shape) (file : FileWord) (mint : List Output) (P : Type 0) (r : Result T Answer)
-    → Tells (before.file file.name.now) (λ c. mint_of_file c ≡ Ok mint) → IfErr r (AreDisksLeft shape mint device before.disks after.disks) → IfErr r (λ e. P ⊎ InitLeaves device before after shape file e)
+pub unmade_left : {D T : Type 0} (device : Ghosts D) (before after : Scene D) (shape : Shape) (file : FileWord) (mint : List Output) (P : Type 0)
+    (r : Result T Answer)
+    → Tells (before.file file.name.now) (λ c. mint_of_file c ≡ Ok mint) → IfErr r (AreDisksLeft shape mint device before.disks after.disks)
+    → IfErr r (λ e. P ⊎ InitLeaves device before after shape file e)
 unmade_left device before after shape file mint P (Ok made) read left = tt
 unmade_left device before after shape file mint P (Err e) read left = inr (mint, read, left)

@@ -1,5 +1,6 @@
 -- Why a file is not read, by what its bytes give.
-use Rattle.std.proofs.Common.{◌≡◌, inl, inr, ℕ, ◌+◌, ◌<◌, ◌≤◌, Bool, List, [], ◌∷◌, ◌++◌, length, take, drop, get_or, Option, Result, Ok, Err, refl, sym, ap, ◌∙◌, subst, arith}
+use Rattle.std.proofs.Common.{◌≡◌, inl, inr, ℕ, ◌+◌, ◌<◌, ◌≤◌, Bool, List, [], ◌∷◌, ◌++◌, length, take, drop, get_or, Option, Result, Ok, Err, refl}
+use Rattle.std.proofs.Common.{sym, ap, ◌∙◌, subst, arith}
 use Rattle.outside.specs.Images.{Tells}
 use Rattle.cbdc_types.specs.declared.answer.Answer.{Answer}
 use Rattle.cbdc_types.specs.declared.answer.Answer.TheVariants as answers
@@ -14,13 +15,15 @@ use Rattle.client_files.specs.declared.fault.FileFault.TheVariants.{Bad, Memory}
 use Rattle.sentinel.specs.Files.{ReadsVerdicts}
 use Rattle.sentinel.specs.declared.file.VerdictFault.{VerdictFault}
 use Rattle.sentinel.specs.declared.file.VerdictFault.TheVariants as verdict_fault
-use Rattle.input_files.specs.Contents.{front, goes_on, IsNotRead, IsFileFaultOf, IsStreamFaultOf, IsVerdictFaultOf, IsNoVerdicts, IsUnfetched, AreRead, FirstNotRead, txs_of_file, all_txs}
+use Rattle.input_files.specs.Contents.{front, goes_on, IsNotRead, IsFileFaultOf, IsStreamFaultOf, IsVerdictFaultOf, IsNoVerdicts, IsUnfetched}
+use Rattle.input_files.specs.Contents.{AreRead, FirstNotRead, txs_of_file, all_txs}
 use Rattle.std.proofs.Common.{suc, add-one}
 use Rattle.std.proofs.Math.Seq.{take-suc, drop-cons}
 use Rattle.std.proofs.lemmas.List.{take-append-drop}
 use Rattle.requests.specs.declared.FileWord.{FileWord}
 
-pub not_read : {X : Type 0} (place : ℕ) (told : Option (List ℕ)) (read : Bool → List ℕ → Result X BadFile) (before now : ℕ) (more : Bool) (bytes : List ℕ) (fault : FileFault) (answer : Answer)
+pub not_read : {X : Type 0} (place : ℕ) (told : Option (List ℕ)) (read : Bool → List ℕ → Result X BadFile) (before now : ℕ) (more : Bool)
+    (bytes : List ℕ) (fault : FileFault) (answer : Answer)
     → IsFileFaultOf place fault answer → Tells told (λ c. (bytes ≡ front c) × (more ≡ goes_on c)) → GivesFile {X = X} (Err fault) (read more bytes)
     → IsNotRead place told (λ c. read (goes_on c) (front c)) before now answer
 not_read place told read before now more bytes (Bad bad) answer is had gives =
@@ -29,7 +32,8 @@ not_read place told read before now more bytes (Bad bad) answer is had gives =
 not_read place told read before now more bytes Memory answer is had gives =
     subst (λ a. IsNotRead place told (λ c. read (goes_on c) (front c)) before now a) (sym is) tt
 
-pub unfetched : {X : Type 0} (place : ℕ) (told : Option (List ℕ)) (read : List ℕ → Result X BadFile) (before now : ℕ) (answer : Answer) → IsUnfetched place before now answer → IsNotRead place told read before now answer
+pub unfetched : {X : Type 0} (place : ℕ) (told : Option (List ℕ)) (read : List ℕ → Result X BadFile) (before now : ℕ) (answer : Answer)
+    → IsUnfetched place before now answer → IsNotRead place told read before now answer
 unfetched place told read before now (answers.ReadFault file) h = h
 unfetched place told read before now answers.Memory h = h
 unfetched place told read before now answers.Ok h = h
@@ -47,10 +51,13 @@ unfetched place told read before now answers.WriteFault h = h
 unfetched place told read before now (answers.DiskFault node) h = h
 
 -- what a client file holds is read of it
-pub held : (told : Option (List ℕ)) (before : ℕ) (r : Result (List FullTx) BadFile) → FileHolds told before r → Tells told (λ c. txs_of_file before c ≡ r)
-held told before r h c e = subst (λ b. clients_in before (goes_on c) b ≡ r) (h.whole c e).0 (subst (λ m. clients_in before m h.bytes ≡ r) (h.whole c e).1 h.is)
+pub held : (told : Option (List ℕ)) (before : ℕ) (r : Result (List FullTx) BadFile) → FileHolds told before r
+    → Tells told (λ c. txs_of_file before c ≡ r)
+held told before r h c e = subst (λ b. clients_in before (goes_on c) b ≡ r) (h.whole c e).0
+    (subst (λ m. clients_in before m h.bytes ≡ r) (h.whole c e).1 h.is)
 
-pub stream_not_read : (place : ℕ) (told : Option (List ℕ)) (before old now : ℕ) (fault : StreamFault) (answer : Answer) → IsStreamFaultOf place fault answer → Stops (λ bad. FileHolds told before (Err bad)) old now fault
+pub stream_not_read : (place : ℕ) (told : Option (List ℕ)) (before old now : ℕ) (fault : StreamFault) (answer : Answer)
+    → IsStreamFaultOf place fault answer → Stops (λ bad. FileHolds told before (Err bad)) old now fault
     → IsNotRead place told (txs_of_file before) old now answer
 stream_not_read place told before old now (stream_fault.Bad bad) answer is stops =
     subst (λ a. IsNotRead place told (txs_of_file before) old now a) (sym is) (refl, held told before (Err bad) stops)
@@ -63,23 +70,38 @@ pub no_verdicts : (place : ℕ) (told : Option (List ℕ)) (before now : ℕ) (m
     → IsVerdictFaultOf place fault answer → Tells told (λ c. (bytes ≡ front c) × (more ≡ goes_on c)) → ReadsVerdicts more bytes (Err fault)
     → IsNoVerdicts place told before now answer
 no_verdicts place told before now more bytes (verdict_fault.Bad bad) answer is had reads =
-    subst (λ a. IsNoVerdicts place told before now a) (sym is)
-    (refl, λ c e. inl (subst (λ b. ReadsVerdicts (goes_on c) b (Err (verdict_fault.Bad bad))) (had c e).0 (subst (λ m. ReadsVerdicts m bytes (Err (verdict_fault.Bad bad))) (had c e).1 reads)))
+    subst (λ a. IsNoVerdicts place told before now a) (sym is) (
+      refl,
+      λ c e. inl (subst (λ b. ReadsVerdicts (goes_on c) b (Err (verdict_fault.Bad bad))) (had c e).0
+          (subst (λ m. ReadsVerdicts m bytes (Err (verdict_fault.Bad bad))) (had c e).1 reads)),
+    )
 no_verdicts place told before now more bytes verdict_fault.Large answer is had reads =
-    subst (λ a. IsNoVerdicts place told before now a) (sym is)
-    (refl, λ c e. inr (subst (λ b. ReadsVerdicts (goes_on c) b (Err verdict_fault.Large)) (had c e).0 (subst (λ m. ReadsVerdicts m bytes (Err verdict_fault.Large)) (had c e).1 reads), refl, refl))
+    subst (λ a. IsNoVerdicts place told before now a) (sym is) (
+      refl,
+      λ c e. inr (
+        subst (λ b. ReadsVerdicts (goes_on c) b (Err verdict_fault.Large)) (had c e).0
+            (subst (λ m. ReadsVerdicts m bytes (Err verdict_fault.Large)) (had c e).1 reads),
+        refl,
+        refl,
+      ),
+    )
 no_verdicts place told before now more bytes verdict_fault.Memory answer is had reads =
     subst (λ a. IsNoVerdicts place told before now a) (sym is) tt
 
 -- ---- client files, one behind another
 
-pub files_read : (told : List ℕ → Option (List ℕ)) (before : ℕ) (files : List FileWord) (read : List (List FullTx)) (file : FileWord) (txs : List FullTx)
-    → AreRead told before files read → Tells (told file.name.now) (λ c. txs_of_file (before + all_txs read) c ≡ Ok txs) → AreRead told before (files ++ file ∷ []) (read ++ txs ∷ [])
+pub files_read : (told : List ℕ → Option (List ℕ)) (before : ℕ) (files : List FileWord) (read : List (List FullTx)) (file : FileWord)
+    (txs : List FullTx)
+    → AreRead told before files read → Tells (told file.name.now) (λ c. txs_of_file (before + all_txs read) c ≡ Ok txs)
+    → AreRead told before (files ++ file ∷ []) (read ++ txs ∷ [])
 files_read told before [] [] file txs are is = (subst (λ n. Tells (told file.name.now) (λ c. txs_of_file n c ≡ Ok txs)) (omega arith) is, tt)
 files_read told before [] (r ∷ read) file txs are is = absurd are
 files_read told before (f ∷ files) [] file txs are is = absurd are
-files_read told before (f ∷ files) (r ∷ read) file txs (here, rest) is =
-    (here, files_read told (before + length r) files read file txs rest (subst (λ n. Tells (told file.name.now) (λ c. txs_of_file n c ≡ Ok txs)) (omega arith) is))
+files_read told before (f ∷ files) (r ∷ read) file txs (here, rest) is = (
+  here,
+  files_read told (before + length r) files read file txs rest
+      (subst (λ n. Tells (told file.name.now) (λ c. txs_of_file n c ≡ Ok txs)) (omega arith) is),
+)
 
 pub all_more : (read : List (List FullTx)) (txs : List FullTx) → all_txs (read ++ txs ∷ []) ≡ all_txs read + length txs
 all_more [] txs = omega arith
@@ -106,13 +128,17 @@ earlier place told read before mid now answers.Memory le h = h
 pub parts_at : {A : Type 0} (xs : List A) (i : ℕ) (d : A) → i < length xs → xs ≡ take i xs ++ get_or xs i d ∷ drop (suc i) xs
 parts_at xs i d inside = sym (take-append-drop i xs) ∙ ap (λ l. take i xs ++ l) (drop-cons xs i d inside)
 
-pub first_not_read : (told old : List ℕ → Option (List ℕ)) (before mid now : List ℕ → ℕ) (files : List FileWord) (i : ℕ) (d : FileWord) (read : List (List FullTx)) (sum : ℕ) (answer : Answer)
-    → i < length files → AreRead told 0 (take i files) read → ((name : List ℕ) → before name ≤ mid name) → ((name : List ℕ) → old name ≡ told name) → sum ≡ all_txs read
-    → IsNotRead (get_or files i d).place (old (get_or files i d).name.now) (txs_of_file sum) (mid (get_or files i d).name.now) (now (get_or files i d).name.now) answer
+pub first_not_read : (told old : List ℕ → Option (List ℕ)) (before mid now : List ℕ → ℕ) (files : List FileWord) (i : ℕ) (d : FileWord)
+    (read : List (List FullTx)) (sum : ℕ) (answer : Answer)
+    → i < length files → AreRead told 0 (take i files) read → ((name : List ℕ) → before name ≤ mid name) → ((name : List ℕ) → old name ≡ told name)
+    → sum ≡ all_txs read
+    → IsNotRead (get_or files i d).place (old (get_or files i d).name.now) (txs_of_file sum) (mid (get_or files i d).name.now)
+    (now (get_or files i d).name.now) answer
     → FirstNotRead told before now files answer
 first_not_read told old before mid now files i d read sum answer inside are later same is not =
     let file = get_or files i d in
-    let a = earlier file.place (old file.name.now) (txs_of_file sum) (before file.name.now) (mid file.name.now) (now file.name.now) answer (later file.name.now) not in
+    let a = earlier file.place (old file.name.now) (txs_of_file sum) (before file.name.now) (mid file.name.now) (now file.name.now) answer
+    (later file.name.now) not in
     let b = subst (λ o. IsNotRead file.place o (txs_of_file sum) (before file.name.now) (now file.name.now) answer) (same file.name.now) a in
     record {
       ahead = take i files;
@@ -124,7 +150,8 @@ first_not_read told old before mid now files i d read sum answer inside are late
       is_not = subst (λ n. IsNotRead file.place (told file.name.now) (txs_of_file n) (before file.name.now) (now file.name.now) answer) is b;
     }
 
-pub files_go_on : (told old : List ℕ → Option (List ℕ)) (files : List FileWord) (i : ℕ) (d : FileWord) (read : List (List FullTx)) (sum : ℕ) (txs : List FullTx) → i < length files
+pub files_go_on : (told old : List ℕ → Option (List ℕ)) (files : List FileWord) (i : ℕ) (d : FileWord) (read : List (List FullTx)) (sum : ℕ)
+    (txs : List FullTx) → i < length files
     → AreRead told 0 (take i files) read → ((name : List ℕ) → old name ≡ told name) → sum ≡ all_txs read
     → Tells (old (get_or files i d).name.now) (λ c. txs_of_file sum c ≡ Ok txs) → AreRead told 0 (take (i + 1) files) (read ++ txs ∷ [])
 files_go_on told old files i d read sum txs inside are same is tells =

@@ -31,7 +31,8 @@ mint_of_file c = mint_in (goes_on c) (front c)
 
 -- the file at this place of the words is outside its grammar, there; or its count of faults rose; or memory ran out
 abbrev pub IsNotRead : {X : Type 0} → ℕ → Option (List ℕ) → (List ℕ → Result X BadFile) → ℕ → ℕ → Answer → Type 0
-IsNotRead place told read before now (answers.BadInput file at kind) = (file ≡ place) × Tells told (λ c. read c ≡ Err (record { at = at; kind = kind }))
+IsNotRead place told read before now (answers.BadInput file at kind) = (file ≡ place)
+    × Tells told (λ c. read c ≡ Err (record { at = at; kind = kind }))
 IsNotRead place told read before now (answers.ReadFault file) = (file ≡ place) × Rose before now
 IsNotRead place told read before now answers.Memory = Unit {0}
 IsNotRead place told read before now other = ⊥
@@ -41,7 +42,8 @@ abbrev pub AreRead : (Text → Option (List ℕ)) → ℕ → List FileWord → 
 AreRead told before [] [] = Unit {0}
 AreRead told before [] (txs ∷ more) = ⊥
 AreRead told before (file ∷ files) [] = ⊥
-AreRead told before (file ∷ files) (txs ∷ more) = Tells (told file.name.now) (λ c. txs_of_file before c ≡ Ok txs) × AreRead told (before + length txs) files more
+AreRead told before (file ∷ files) (txs ∷ more) = Tells (told file.name.now) (λ c. txs_of_file before c ≡ Ok txs)
+    × AreRead told (before + length txs) files more
 
 -- the number of transactions of some files
 abbrev pub all_txs : List (List FullTx) → ℕ

@@ -24,4 +24,5 @@ AreNoHadVerdicts place (Err why) answer = answer ≡ why
 abbrev pub AreNoInputs : (Text → Option (List ℕ)) → (Text → ℕ) → (Text → ℕ) → List FileWord → FileWord → Answer → Type 0
 AreNoInputs told before now clients verdicts answer =
     FirstNotRead told before now clients answer
-    ⊎ ((handed : List (List FullTx)) × AreRead told 0 clients handed × IsNoVerdicts verdicts.place (told verdicts.name.now) (before verdicts.name.now) (now verdicts.name.now) answer)
+    ⊎ ((handed : List (List FullTx)) × AreRead told 0 clients handed
+    × IsNoVerdicts verdicts.place (told verdicts.name.now) (before verdicts.name.now) (now verdicts.name.now) answer)

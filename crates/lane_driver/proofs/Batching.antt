@@ -1,5 +1,6 @@
 -- What was told of a batch, from its Prepare on, and a lane that goes on by a batch.
-use Rattle.std.proofs.Common.{◌≡◌, ℕ, zero, suc, ◌<◌, ◌≤◌, ◌==◌, Bool, true, false, List, [], ◌∷◌, length, take, drop, Ok, Err, refl, sym, ◌∙◌, ap, subst, arith, rules}
+use Rattle.std.proofs.Common.{◌≡◌, ℕ, zero, suc, ◌<◌, ◌≤◌, ◌==◌, Bool, true, false, List, [], ◌∷◌, length, take, drop, Ok, Err, refl, sym, ◌∙◌, ap}
+use Rattle.std.proofs.Common.{subst, arith, rules}
 use Rattle.std.specs.Prelude.{◌++◌, reverse}
 use Rattle.std.proofs.lemmas.List.{reverse-append, length-take, length-drop}
 use Rattle.cbdc_types.specs.declared.calls.NodeFault.{NodeFault}
@@ -20,8 +21,11 @@ use Rattle.lane_driver.specs.Showing.{LaneSights}
 use Rattle.lane_driver.specs.Outcomes.{IsStop, IsBatchDone, IsBatchStop}
 
 -- a batch from its Prepare on: it stopped there, or behind it, or it was done
-module _ (K : Shape) (alone : Bool) (lane : ℕ) (txs : List Compact) (n : ℕ) (parts : List (ℕ × List Entry)) (are : AreParts K txs parts) (old new : LaneSights) where
-  pub prepare_stops : (node : ℕ) (f : NodeFault) → node ≡ home_of K lane → Told alone lane true (prepare_due old.home.header.shape old.home.capacity lane txs) old.home new.home (Err f) → ((s : ℕ) → new.shards s ≡ old.shards s)
+module _ (K : Shape) (alone : Bool) (lane : ℕ) (txs : List Compact) (n : ℕ) (parts : List (ℕ × List Entry)) (are : AreParts K txs parts)
+    (old new : LaneSights) where
+  pub prepare_stops : (node : ℕ) (f : NodeFault) → node ≡ home_of K lane
+      → Told alone lane true (prepare_due old.home.header.shape old.home.capacity lane txs) old.home new.home (Err f)
+      → ((s : ℕ) → new.shards s ≡ old.shards s)
       → IsCausedStop K new.logs new.shards node f → IsBatchStop K alone lane txs n old new (record { node = node; fault = f })
   prepare_stops node f at told same cause = (
     parts,
@@ -29,20 +33,30 @@ module _ (K : Shape) (alone : Bool) (lane : ℕ) (txs : List Compact) (n : ℕ) 
     record {
       told_so = at_prepare told same at;
       cause = cause;
-      want = λ w. wants_at_prepare (subst (λ g. Told alone lane true (prepare_due old.home.header.shape old.home.capacity lane txs) old.home new.home (Err g)) w told) same at;
+      want = λ w. wants_at_prepare (subst (λ g. Told alone lane true (prepare_due old.home.header.shape old.home.capacity lane txs) old.home new.home
+          (Err g)) w told) same at;
     },
   )
 
-  module _ (b : Batch) (t : ℕ) (log1 : Sight) (told : Told alone lane true (prepare_due old.home.header.shape old.home.capacity lane txs) old.home log1 (Ok (b, t))) where
-    pub prepared_done : (os : List Outcome) → ToldPrepared alone b t n parts log1 new.home old.shards new.shards os → IsBatchDone K alone lane txs n old new (record { batch = b; outcomes = os })
+  module _ (b : Batch) (t : ℕ) (log1 : Sight) (told : Told alone lane true (prepare_due old.home.header.shape old.home.capacity lane txs) old.home
+      log1 (Ok (b, t))) where
+    pub prepared_done : (os : List Outcome) → ToldPrepared alone b t n parts log1 new.home old.shards new.shards os
+        → IsBatchDone K alone lane txs n old new (record { batch = b; outcomes = os })
     prepared_done os rest = (parts, are, record { log_prepared = log1; prepared = t; prepare = told; rest = rest })
 
-    pub prepared_stops : (e : Stop) → IsStop K new (PreparedStopped K alone b t n parts log1 new.home old.shards new.shards) (IsLockWant K alone b t parts log1 new.home old.shards new.shards) e → IsBatchStop K alone lane txs n old new e
-    prepared_stops e stop = (parts, are, record { told_so = behind_prepare b log1 t told stop.told_so; cause = stop.cause; want = λ w. wants_at_lock b log1 t told (stop.want w) })
+    pub prepared_stops : (e : Stop) → IsStop K new (PreparedStopped K alone b t n parts log1 new.home old.shards new.shards)
+        (IsLockWant K alone b t parts log1 new.home old.shards new.shards) e → IsBatchStop K alone lane txs n old new e
+    prepared_stops e stop = (
+      parts,
+      are,
+      record { told_so = behind_prepare b log1 t told stop.told_so; cause = stop.cause; want = λ w. wants_at_lock b log1 t told (stop.want w) },
+    )
 
 -- a lane goes on by a batch
-pub done_on : (K : Shape) (alone : Bool) (lane : ℕ) (txs rest piece : List Compact) (log0 log1 log2 : Sight) (I0 I1 I2 : ℕ → Sight) → piece ≡ take K.batch rest → (more : List Compact) (reports news : List BatchReport) (r : BatchReport) → news ≡ reports ++ r ∷ []
-    → 0 < length rest → more ≡ drop K.batch rest → AreDone K alone lane txs log0 I0 (reverse reports) rest log1 I1 → BatchDone K alone lane (slot log1.seen lane).number piece log1 I1 log2 I2 r.batch r.outcomes
+pub done_on : (K : Shape) (alone : Bool) (lane : ℕ) (txs rest piece : List Compact) (log0 log1 log2 : Sight) (I0 I1 I2 : ℕ → Sight)
+    → piece ≡ take K.batch rest → (more : List Compact) (reports news : List BatchReport) (r : BatchReport) → news ≡ reports ++ r ∷ []
+    → 0 < length rest → more ≡ drop K.batch rest → AreDone K alone lane txs log0 I0 (reverse reports) rest log1 I1
+    → BatchDone K alone lane (slot log1.seen lane).number piece log1 I1 log2 I2 r.batch r.outcomes
     → AreDone K alone lane txs log0 I0 (reverse news) more log2 I2
 done_on K alone lane txs rest piece log0 log1 log2 I0 I1 I2 front more reports news r is some back older done =
     let next : AreDone K alone lane txs log0 I0 (r ∷ reverse reports) more log2 I2 = (

@@ -30,5 +30,6 @@ reported_more lane n txs rest piece more reports r so some p m is = (
   piece ∷ so.0,
   (rest, so.1, some, p, m),
   subst (λ pieces. AreBatchReports lane (reports ++ r ∷ []) pieces) (sym (reverse_onto so.0 piece []))
-      (all_zipped_more (λ (r : BatchReport) (piece : List Compact). (r.batch.lane ≡ lane) × (length r.outcomes ≡ length piece)) reports (reverse so.0) r piece so.2 is),
+      (all_zipped_more (λ (r : BatchReport) (piece : List Compact). (r.batch.lane ≡ lane) × (length r.outcomes ≡ length piece)) reports
+      (reverse so.0) r piece so.2 is),
 )

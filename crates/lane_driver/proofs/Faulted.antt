@@ -22,4 +22,5 @@ pub all_ok : {A Y : Type 0} (f : Y → A) (ys : List Y) (xs answers : List (Resu
     → map (λ y. Ok (f y)) ys ≡ xs → map (λ x. x) xs ≡ take (length xs) answers → All IsOk (take n answers)
 all_ok {A = A} f ys xs answers n e made so =
     let P : List (Result A NodeFault) → Type 0 = λ zs. All IsOk zs in
-    subst (λ k. All IsOk (take k answers)) (sym e) (subst P (made ∙ (sym (map-id xs) ∙ so)) (All-map (λ (r : Result A NodeFault). IsOk r) (λ y. Ok (f y)) ys (λ k d h. refl)))
+    subst (λ k. All IsOk (take k answers)) (sym e)
+    (subst P (made ∙ (sym (map-id xs) ∙ so)) (All-map (λ (r : Result A NodeFault). IsOk r) (λ y. Ok (f y)) ys (λ k d h. refl)))

@@ -9,14 +9,16 @@ module _ {X Y : Type 0} (f : X → Y) (xs : List X) where
   filled_fits ys room is fits = subst (λ n. n ≤ room) (sym (ap length is ∙ length-map xs f)) fits
 
   -- there is room for the next value
-  pub filled_below : (i long room was : ℕ) (ys : List Y) → long ≡ length ys → ys ≡ map f (take i xs) → i < length xs → room ≡ was → length xs ≤ was → long < room
+  pub filled_below : (i long room was : ℕ) (ys : List Y) → long ≡ length ys → ys ≡ map f (take i xs) → i < length xs → room ≡ was → length xs ≤ was
+      → long < room
   filled_below i long room was ys at is inside same fits =
       let so_far : long ≡ length (take i xs) = at ∙ ap length is ∙ length-map (take i xs) f in
       let short = length-take i xs in
       omega (arith, so_far, short)
 
   -- one value more
-  pub filled_more : (i : ℕ) (x : X) (old new : List Y) (y : Y) → i < length xs → x ≡ get_or xs i x → old ≡ map f (take i xs) → y ≡ f x → new ≡ old ++ y ∷ [] → new ≡ map f (take (i + 1) xs)
+  pub filled_more : (i : ℕ) (x : X) (old new : List Y) (y : Y) → i < length xs → x ≡ get_or xs i x → old ≡ map f (take i xs) → y ≡ f x
+      → new ≡ old ++ y ∷ [] → new ≡ map f (take (i + 1) xs)
   filled_more i x old new y inside at so_far is pushed =
       pushed ∙ ap (λ l. l ++ y ∷ []) so_far ∙ ap (λ z. map f (take i xs) ++ z ∷ []) (is ∙ ap f at) ∙ sym (map_more f xs i x inside)
 

@@ -17,11 +17,13 @@ use Rattle.lane_laws.specs.Parts.{IsFitPart}
 use Rattle.lane_laws.proofs.PartCalls.{part_fits}
 use Rattle.lane_driver.specs.Calls.{shard, lock_call_of, finish_call_of, forget_call_of}
 use Rattle.cbdc_model.specs.Slots.{Phase}
-use Rattle.lane_driver.specs.Told.{IsLane, KeepsOtherLanes, AreShards, AreShardsOf, KeepNodes, AreLockCalls, AreFinishCalls, AreForgetCalls, AreFitParts, IsStamp}
+use Rattle.lane_driver.specs.Told.{IsLane, KeepsOtherLanes, AreShards, AreShardsOf, KeepNodes, AreLockCalls, AreFinishCalls, AreForgetCalls}
+use Rattle.lane_driver.specs.Told.{AreFitParts, IsStamp}
 
 -- ---- what stays
 
-pub elsewhere_on : (at0 at1 : ℕ) (X0 X1 X2 : ℕ → Sight) → at1 ≡ at0 → ((n : ℕ) → n ≢ at0 → X1 n ≡ X0 n) → ((n : ℕ) → n ≢ at1 → X2 n ≡ X1 n) → (n : ℕ) → n ≢ at0 → X2 n ≡ X0 n
+pub elsewhere_on : (at0 at1 : ℕ) (X0 X1 X2 : ℕ → Sight) → at1 ≡ at0 → ((n : ℕ) → n ≢ at0 → X1 n ≡ X0 n) → ((n : ℕ) → n ≢ at1 → X2 n ≡ X1 n) → (n : ℕ)
+    → n ≢ at0 → X2 n ≡ X0 n
 elsewhere_on at0 at1 X0 X1 X2 e a b n ne = b n (subst (λ m. n ≢ m) (sym e) ne) ∙ a n ne
 
 pub nodes_same : (I : ℕ → Sight) → KeepNodes I I
@@ -42,10 +44,13 @@ nodes_on I M J a b n = record {
 pub ledger_kept : (K : Shape) (I J : ℕ → Sight) → AreShardsOf K I → KeepNodes I J → AreShardsOf K J
 ledger_kept K I J a k = λ s lt. subst (λ h. (h.shape ≡ K) × (h.node ≡ shard_node K s)) (sym (k s).header) (a s lt)
 
-pub calls_kept : {C : Type 0} (P : Header → C → Type 0) (I J : ℕ → Sight) → KeepNodes I J → (cs : List (ℕ × C)) → All (λ c. P (I c.0).header c.1) cs → All (λ c. P (J c.0).header c.1) cs
-calls_kept P I J k cs all = All-weaker (λ c. P (I c.0).header c.1) (λ c. P (J c.0).header c.1) (λ c h. subst (λ x. P x c.1) (sym (k c.0).header) h) cs all
+pub calls_kept : {C : Type 0} (P : Header → C → Type 0) (I J : ℕ → Sight) → KeepNodes I J → (cs : List (ℕ × C)) → All (λ c. P (I c.0).header c.1) cs
+    → All (λ c. P (J c.0).header c.1) cs
+calls_kept P I J k cs all = All-weaker (λ c. P (I c.0).header c.1) (λ c. P (J c.0).header c.1) (λ c h. subst (λ x. P x c.1) (sym (k c.0).header) h)
+    cs all
 
-pub others_on : (h k : Header) (lane : ℕ) (p q r : ℕ → Phase) (t u v : ℕ → List Compact) → k ≡ h → KeepsOtherLanes h lane p q t u → KeepsOtherLanes k lane q r u v → KeepsOtherLanes h lane p r t v
+pub others_on : (h k : Header) (lane : ℕ) (p q r : ℕ → Phase) (t u v : ℕ → List Compact) → k ≡ h → KeepsOtherLanes h lane p q t u
+    → KeepsOtherLanes k lane q r u v → KeepsOtherLanes h lane p r t v
 others_on h k lane p q r t u v e a b l is ne =
     let one = a l is ne in
     let more = b l (subst (λ h. IsLane h l) (sym e) is) ne in
@@ -53,7 +58,8 @@ others_on h k lane p q r t u v e a b l is ne =
 
 -- ---- the calls of each phase
 
-lock_fit : (K : Shape) (h : Header) (b : Batch) (t : ℕ) (es : List Entry) → h.shape ≡ K → IsBatchOf K b → IsStamp t → IsFitPart h es → IsLockCall h (record { batch = b; part = es; cause = t })
+lock_fit : (K : Shape) (h : Header) (b : Batch) (t : ℕ) (es : List Entry) → h.shape ≡ K → IsBatchOf K b → IsStamp t → IsFitPart h es
+    → IsLockCall h (record { batch = b; part = es; cause = t })
 lock_fit K h b t es e batch cause fit = record {
   batch = subst (λ K. IsBatchOf K b) (sym e) batch;
   cause = cause;
@@ -62,7 +68,8 @@ lock_fit K h b t es e batch cause fit = record {
   entries = fit.entries;
 }
 
-finish_fit : (K : Shape) (h : Header) (b : Batch) (t : ℕ) (os : List Outcome) (c : LockCall) → h.shape ≡ K → IsBatchOf K b → IsStamp t → IsLockCall h c → IsFinishCall h (record { batch = b; decisions = decisions os c.part; cause = t })
+finish_fit : (K : Shape) (h : Header) (b : Batch) (t : ℕ) (os : List Outcome) (c : LockCall) → h.shape ≡ K → IsBatchOf K b → IsStamp t
+    → IsLockCall h c → IsFinishCall h (record { batch = b; decisions = decisions os c.part; cause = t })
 finish_fit K h b t os c e batch cause lock = record {
   batch = subst (λ K. IsBatchOf K b) (sym e) batch;
   cause = cause;
@@ -79,20 +86,25 @@ module _ (K : Shape) (I : ℕ → Sight) (ledger : AreShardsOf K I) (b : Batch) 
   locks [] within fit = All-nil (λ c. IsLockCall (I c.0).header c.1)
   locks (p ∷ ps) within fit =
       All-cons (λ c. IsLockCall (I c.0).header c.1) (lock_call_of b t p) (map (lock_call_of b t) ps)
-      (lock_fit K (I p.0).header b t p.1 (ledger p.0 (All-head (λ p. shard p < K.shards) p ps within)).0 batch cause (All-head (λ p. IsFitPart (I p.0).header p.1) p ps fit))
+      (lock_fit K (I p.0).header b t p.1 (ledger p.0 (All-head (λ p. shard p < K.shards) p ps within)).0 batch cause
+      (All-head (λ p. IsFitPart (I p.0).header p.1) p ps fit))
       (locks ps (All-tail (λ p. shard p < K.shards) p ps within) (All-tail (λ p. IsFitPart (I p.0).header p.1) p ps fit))
 
-  pub locks_ready : (ps : List (ℕ × List Entry)) (cs : List (ℕ × LockCall)) → cs ≡ map (lock_call_of b t) ps → AreShards shard K.shards ps → AreFitParts I ps → AreLockCalls I cs
+  pub locks_ready : (ps : List (ℕ × List Entry)) (cs : List (ℕ × LockCall)) → cs ≡ map (lock_call_of b t) ps → AreShards shard K.shards ps
+      → AreFitParts I ps → AreLockCalls I cs
   locks_ready ps cs e within fit = subst (λ cs. AreLockCalls I cs) (sym e) (locks ps within.1 fit)
 
-  finishes : (os : List Outcome) (cs : List (ℕ × LockCall)) → All (λ c. shard c < K.shards) cs → AreLockCalls I cs → AreFinishCalls I (map (finish_call_of b t os) cs)
+  finishes : (os : List Outcome) (cs : List (ℕ × LockCall)) → All (λ c. shard c < K.shards) cs → AreLockCalls I cs
+      → AreFinishCalls I (map (finish_call_of b t os) cs)
   finishes os [] within fit = All-nil (λ c. IsFinishCall (I c.0).header c.1)
   finishes os (c ∷ cs) within fit =
       All-cons (λ c. IsFinishCall (I c.0).header c.1) (finish_call_of b t os c) (map (finish_call_of b t os) cs)
-      (finish_fit K (I c.0).header b t os c.1 (ledger c.0 (All-head (λ c. shard c < K.shards) c cs within)).0 batch cause (All-head (λ c. IsLockCall (I c.0).header c.1) c cs fit))
+      (finish_fit K (I c.0).header b t os c.1 (ledger c.0 (All-head (λ c. shard c < K.shards) c cs within)).0 batch cause
+      (All-head (λ c. IsLockCall (I c.0).header c.1) c cs fit))
       (finishes os cs (All-tail (λ c. shard c < K.shards) c cs within) (All-tail (λ c. IsLockCall (I c.0).header c.1) c cs fit))
 
-  pub finishes_ready : (os : List Outcome) (cs : List (ℕ × LockCall)) (fs : List (ℕ × FinishCall)) → fs ≡ map (finish_call_of b t os) cs → AreShards shard K.shards cs → AreLockCalls I cs → AreFinishCalls I fs
+  pub finishes_ready : (os : List Outcome) (cs : List (ℕ × LockCall)) (fs : List (ℕ × FinishCall)) → fs ≡ map (finish_call_of b t os) cs
+      → AreShards shard K.shards cs → AreLockCalls I cs → AreFinishCalls I fs
   finishes_ready os cs fs e within fit = subst (λ fs. AreFinishCalls I fs) (sym e) (finishes os cs within.1 fit)
 
   forgets : (cs : List (ℕ × LockCall)) → All (λ c. shard c < K.shards) cs → AreForgetCalls I (map (forget_call_of b t) cs)
@@ -102,7 +114,8 @@ module _ (K : Shape) (I : ℕ → Sight) (ledger : AreShardsOf K I) (b : Batch) 
       (forget_fit K (I c.0).header b t (ledger c.0 (All-head (λ c. shard c < K.shards) c cs within)).0 batch cause)
       (forgets cs (All-tail (λ c. shard c < K.shards) c cs within))
 
-  pub forgets_ready : (cs : List (ℕ × LockCall)) (fs : List (ℕ × ForgetCall)) → fs ≡ map (forget_call_of b t) cs → AreShards shard K.shards cs → AreForgetCalls I fs
+  pub forgets_ready : (cs : List (ℕ × LockCall)) (fs : List (ℕ × ForgetCall)) → fs ≡ map (forget_call_of b t) cs → AreShards shard K.shards cs
+      → AreForgetCalls I fs
   forgets_ready cs fs e within = subst (λ fs. AreForgetCalls I fs) (sym e) (forgets cs within.1)
 
 -- ---- the parts of a batch
@@ -111,10 +124,12 @@ below_and : (s n : ℕ) (none : Bool) → (nat_lt s n && not none) ≡ true → 
 below_and s n true h = absurd (let z : (nat_lt s n && false) ≡ true = h in grind (arith, z))
 below_and s n false h = (grind (arith, h), refl)
 
-part_fit : (h : Header) (K : Shape) (s : ℕ) (es : List Entry) (txs : List Compact) → h.shape ≡ K → h.node ≡ shard_node K s → length txs ≤ K.batch → All IsCompact txs
+part_fit : (h : Header) (K : Shape) (s : ℕ) (es : List Entry) (txs : List Compact) → h.shape ≡ K → h.node ≡ shard_node K s → length txs ≤ K.batch
+    → All IsCompact txs
     → is_no_part (part K.shards s 0 txs) ≡ false → es ≡ part K.shards s 0 txs → IsFitPart h es
 part_fit h K s es txs e node size all some is =
-    subst (λ K. h.node ≡ shard_node K s → length txs ≤ K.batch → is_no_part (part K.shards s 0 txs) ≡ false → es ≡ part K.shards s 0 txs → IsFitPart h es) e
+    subst (λ K. h.node ≡ shard_node K s → length txs ≤ K.batch → is_no_part (part K.shards s 0 txs) ≡ false → es ≡ part K.shards s 0 txs
+    → IsFitPart h es) e
     (λ node size some is. subst (λ es. IsFitPart h es) (sym is) (part_fits h txs s size all node some)) node size some is
 
 module _ (K : Shape) (I : ℕ → Sight) (txs : List Compact) (ledger : AreShardsOf K I) (size : length txs ≤ K.batch) (all : All IsCompact txs) where
@@ -123,7 +138,9 @@ module _ (K : Shape) (I : ℕ → Sight) (txs : List Compact) (ledger : AreShard
   every_fit (p ∷ ps) every =
       let here = below_and p.0 K.shards (is_no_part (part K.shards p.0 0 txs)) every.0.0 in
       let at = ledger p.0 here.0 in
-      All-cons (λ p. IsFitPart (I p.0).header p.1) p ps (part_fit (I p.0).header K p.0 p.1 txs at.0 at.1 size all here.1 every.0.1) (every_fit ps every.1)
+      All-cons (λ p. IsFitPart (I p.0).header p.1) p ps (part_fit (I p.0).header K p.0 p.1 txs at.0 at.1 size all here.1 every.0.1)
+      (every_fit ps every.1)
 
-pub parts_fit : (K : Shape) (I : ℕ → Sight) (txs : List Compact) (ps : List (ℕ × List Entry)) → AreShardsOf K I → HasSize K txs → All IsCompact txs → AreParts K txs ps → AreFitParts I ps
+pub parts_fit : (K : Shape) (I : ℕ → Sight) (txs : List Compact) (ps : List (ℕ × List Entry)) → AreShardsOf K I → HasSize K txs → All IsCompact txs
+    → AreParts K txs ps → AreFitParts I ps
 parts_fit K I txs ps ledger size all are = every_fit K I txs ledger size.1 all ps are.every

@@ -21,7 +21,8 @@ module _ {L : Type 0} {at : L → ℕ} {header : L → Header} {count : L → �
     held = λ h. h;
   }
 
-  pub log_on : {k l m : L} → KeepsLog at header count sights faults holds k l → KeepsLog at header count sights faults holds l m → KeepsLog at header count sights faults holds k m
+  pub log_on : {k l m : L} → KeepsLog at header count sights faults holds k l → KeepsLog at header count sights faults holds l m
+      → KeepsLog at header count sights faults holds k m
   log_on {k} {l} {m} a b = record {
     at_same = b.at_same ∙ a.at_same;
     header_same = b.header_same ∙ a.header_same;
@@ -42,7 +43,8 @@ module _ {S : Type 0} {count : S → ℕ} {sights : S → ℕ → Sight} {faults
     served = λ l mine. mine;
   }
 
-  pub shards_on : {r s t : S} → KeepsShards count sights faults holds serves r s → KeepsShards count sights faults holds serves s t → KeepsShards count sights faults holds serves r t
+  pub shards_on : {r s t : S} → KeepsShards count sights faults holds serves r s → KeepsShards count sights faults holds serves s t
+      → KeepsShards count sights faults holds serves r t
   shards_on {r} {s} {t} a b = record {
     count_same = b.count_same ∙ a.count_same;
     nodes = nodes_on (sights r) (sights s) (sights t) a.nodes b.nodes;
@@ -59,5 +61,6 @@ module _ {S L G : Type 0} (log : LogGhosts L) (set : SetGhosts S G) (lane : ℕ)
   ports_on k l m a b = record {
     to_log = log_on a.to_log b.to_log;
     to_shards = shards_on a.to_shards b.to_shards;
-    others = λ quiet. others_on (log.header k.log) (log.header l.log) lane (log.phase k.log) (log.phase l.log) (log.phase m.log) (log.open_txs k.log) (log.open_txs l.log) (log.open_txs m.log) a.to_log.header_same (a.others quiet) (b.others quiet);
+    others = λ quiet. others_on (log.header k.log) (log.header l.log) lane (log.phase k.log) (log.phase l.log) (log.phase m.log) (log.open_txs k.log)
+        (log.open_txs l.log) (log.open_txs m.log) a.to_log.header_same (a.others quiet) (b.others quiet);
   }

@@ -25,7 +25,8 @@ small_stamp : (a : Result ℕ NodeFault) → IfOk a IsStamp → ok_stamp a < 2 ^
 small_stamp (Ok t) h = h
 small_stamp (Err f) h = lit< tt
 
-pub latest_small : {X : Type 0} (cs : List (ℕ × X)) (answers : List (Result ℕ NodeFault)) → EachAnswer StampTold cs answers → latest_of answers < 2 ^ 63
+pub latest_small : {X : Type 0} (cs : List (ℕ × X)) (answers : List (Result ℕ NodeFault)) → EachAnswer StampTold cs answers
+    → latest_of answers < 2 ^ 63
 latest_small [] [] h = lit< tt
 latest_small [] (a ∷ answers) h = absurd h
 latest_small (c ∷ cs) [] h = absurd h
@@ -51,15 +52,18 @@ rising_alike f g (c ∷ cs) (r ∷ rs) e h =
     let tail : map g rs ≡ map f cs = cc in
     (above_alike (g r) f g cs rs tail (subst (λ n. AllAbove f n cs) head h.0), rising_alike f g cs rs tail h.1)
 
-pub below_alike : (n : ℕ) {C R : Type 0} (f : C → ℕ) (g : R → ℕ) (cs : List C) (rs : List R) → map g rs ≡ map f cs → All (λ c. f c < n) cs → All (λ r. g r < n) rs
+pub below_alike : (n : ℕ) {C R : Type 0} (f : C → ℕ) (g : R → ℕ) (cs : List C) (rs : List R) → map g rs ≡ map f cs → All (λ c. f c < n) cs
+    → All (λ r. g r < n) rs
 below_alike n f g cs [] e h = All-nil (λ r. g r < n)
 below_alike n f g [] (r ∷ rs) e h = cc
 below_alike n f g (c ∷ cs) (r ∷ rs) e h =
     let head : f c ≡ g r = cc in
     let tail : map g rs ≡ map f cs = cc in
-    All-cons (λ r. g r < n) r rs (subst (λ k. k < n) head (All-head (λ c. f c < n) c cs h)) (below_alike n f g cs rs tail (All-tail (λ c. f c < n) c cs h))
+    All-cons (λ r. g r < n) r rs (subst (λ k. k < n) head (All-head (λ c. f c < n) c cs h))
+    (below_alike n f g cs rs tail (All-tail (λ c. f c < n) c cs h))
 
-pub shards_alike : (n : ℕ) {C R : Type 0} (f : C → ℕ) (g : R → ℕ) (cs : List C) (rs : List R) → map g rs ≡ map f cs → AreShards f n cs → AreShards g n rs
+pub shards_alike : (n : ℕ) {C R : Type 0} (f : C → ℕ) (g : R → ℕ) (cs : List C) (rs : List R) → map g rs ≡ map f cs → AreShards f n cs
+    → AreShards g n rs
 shards_alike n f g cs rs e h = (rising_alike f g cs rs e h.0, below_alike n f g cs rs e h.1)
 
 module _ (I : ℕ → Sight) where
@@ -75,7 +79,8 @@ module _ (I : ℕ → Sight) where
       All-cons (λ r. IsStamp r.stamp) r rs told.0 (replied_stamps cs answers rs tail h.1)
 
   replied_names : (K : Shape) → AreShardsOf K I → (cs : List (ℕ × LockCall)) (answers : List (Result Replied NodeFault)) (rs : List ShardReplies)
-      → map (λ r. Ok (gathered_reply r)) rs ≡ answers → All (λ c. shard c < K.shards) cs → EachAnswer (LockTold I) cs answers → All (λ r. All (IsReply K) r.replies) rs
+      → map (λ r. Ok (gathered_reply r)) rs ≡ answers → All (λ c. shard c < K.shards) cs → EachAnswer (LockTold I) cs answers
+      → All (λ r. All (IsReply K) r.replies) rs
   replied_names K ledger cs answers [] e within h = All-nil (λ r. All (IsReply K) r.replies)
   replied_names K ledger cs [] (r ∷ rs) e within h = cc
   replied_names K ledger [] (a ∷ answers) (r ∷ rs) e within h = absurd h
@@ -89,5 +94,8 @@ module _ (I : ℕ → Sight) where
 
 pub gathered_replies : (K : Shape) (I : ℕ → Sight) (cs : List (ℕ × LockCall)) (answers : List (Result Replied NodeFault)) (rs : List ShardReplies)
     → Gathered cs answers rs → EachAnswer (LockTold I) cs answers → AreShardsOf K I → AreShards shard K.shards cs → AreReplies K rs
-gathered_replies K I cs answers rs g told ledger below =
-    (shards_alike K.shards shard (λ r. r.shard) cs rs g.shards below, replied_stamps I cs answers rs g.replies told, replied_names I K ledger cs answers rs g.replies below.1 told)
+gathered_replies K I cs answers rs g told ledger below = (
+  shards_alike K.shards shard (λ r. r.shard) cs rs g.shards below,
+  replied_stamps I cs answers rs g.replies told,
+  replied_names I K ledger cs answers rs g.replies below.1 told,
+)

@@ -19,7 +19,8 @@ pub rising-more : {C : Type 0} (f : C → ℕ) (xs : List C) (i : ℕ) (d : C) (
 rising-more {C = C} f xs i d least lt le rising before =
     let P : List C → Type 0 = λ zs. IsRising f zs in
     subst P (sym (take_more xs i d lt))
-    (rising-push f (take i xs) (get_or xs i d) rising (All-weaker (λ x. f x < least) (λ x. f x < f (get_or xs i d)) (λ x h. omega arith) (take i xs) before))
+    (rising-push f (take i xs) (get_or xs i d) rising
+    (All-weaker (λ x. f x < least) (λ x. f x < f (get_or xs i d)) (λ x h. omega arith) (take i xs) before))
 
 pub before-more : {C : Type 0} (f : C → ℕ) (xs : List C) (i : ℕ) (d : C) (least n : ℕ) → i < length xs → f (get_or xs i d) ≡ n → least ≤ n
     → All (λ x. f x < least) (take i xs) → All (λ x. f x < n + 1) (take (i + 1) xs)

@@ -16,15 +16,18 @@ shards-map : {X Y : Type 0} (f : ℕ × X → ℕ × Y) → ((x : ℕ × X) → 
 shards-map f same [] = refl
 shards-map f same (x ∷ xs) = ap (λ n. n ∷ map shard (map f xs)) (same x) ∙ ap (λ ns. shard x ∷ ns) (shards-map f same xs)
 
-mapped_shards : {X Y : Type 0} (f : ℕ × X → ℕ × Y) → ((x : ℕ × X) → shard (f x) ≡ shard x) → (m n : ℕ) → m ≡ n → (xs : List (ℕ × X)) (ys : List (ℕ × Y))
+mapped_shards : {X Y : Type 0} (f : ℕ × X → ℕ × Y) → ((x : ℕ × X) → shard (f x) ≡ shard x) → (m n : ℕ) → m ≡ n
+    → (xs : List (ℕ × X)) (ys : List (ℕ × Y))
     → ys ≡ map f xs → AreShards shard n xs → AreShards shard m ys
 mapped_shards f same m n k xs ys e h =
     subst (λ m. AreShards shard m ys) (sym k) (shards_alike n shard shard xs ys (ap (λ zs. map shard zs) e ∙ shards-map f same xs) h)
 
-pub lock_shards : (b : Batch) (t m n : ℕ) → m ≡ n → (ps : List (ℕ × List Entry)) (cs : List (ℕ × LockCall)) → cs ≡ map (lock_call_of b t) ps → AreShards shard n ps → AreShards shard m cs
+pub lock_shards : (b : Batch) (t m n : ℕ) → m ≡ n → (ps : List (ℕ × List Entry)) (cs : List (ℕ × LockCall)) → cs ≡ map (lock_call_of b t) ps
+    → AreShards shard n ps → AreShards shard m cs
 lock_shards b t m n k ps cs e h = mapped_shards (lock_call_of b t) (λ x. refl) m n k ps cs e h
 
-pub lock_sizes : (b : Batch) (t : ℕ) (ps : List (ℕ × List Entry)) (cs : List (ℕ × LockCall)) (n m : ℕ) → cs ≡ map (lock_call_of b t) ps → All (λ p. length p.1 ≤ n) ps → m ≡ n → All (λ c. length c.1.part ≤ m) cs
+pub lock_sizes : (b : Batch) (t : ℕ) (ps : List (ℕ × List Entry)) (cs : List (ℕ × LockCall)) (n m : ℕ) → cs ≡ map (lock_call_of b t) ps
+    → All (λ p. length p.1 ≤ n) ps → m ≡ n → All (λ c. length c.1.part ≤ m) cs
 lock_sizes b t ps cs n m e h k =
     let P : ℕ × LockCall → Type 0 = λ c. length c.1.part ≤ m in
     All-same P cs (map (lock_call_of b t) ps) e
@@ -34,10 +37,12 @@ lock_sizes b t ps cs n m e h k =
 abbrev pub finish_with : Batch → ℕ → ℕ → List Bool → ℕ × FinishCall
 finish_with b t s ds = (s, record { batch = b; decisions = ds; cause = t })
 
-pub finish_shards : (b : Batch) (t : ℕ) (os : List Outcome) (m n : ℕ) → m ≡ n → (cs : List (ℕ × LockCall)) (fs : List (ℕ × FinishCall)) → fs ≡ map (finish_call_of b t os) cs → AreShards shard n cs → AreShards shard m fs
+pub finish_shards : (b : Batch) (t : ℕ) (os : List Outcome) (m n : ℕ) → m ≡ n → (cs : List (ℕ × LockCall)) (fs : List (ℕ × FinishCall))
+    → fs ≡ map (finish_call_of b t os) cs → AreShards shard n cs → AreShards shard m fs
 finish_shards b t os m n k cs fs e h = mapped_shards (finish_call_of b t os) (λ x. refl) m n k cs fs e h
 
-pub forget_shards : (b : Batch) (t m n : ℕ) → m ≡ n → (cs : List (ℕ × LockCall)) (fs : List (ℕ × ForgetCall)) → fs ≡ map (forget_call_of b t) cs → AreShards shard n cs → AreShards shard m fs
+pub forget_shards : (b : Batch) (t m n : ℕ) → m ≡ n → (cs : List (ℕ × LockCall)) (fs : List (ℕ × ForgetCall)) → fs ≡ map (forget_call_of b t) cs
+    → AreShards shard n cs → AreShards shard m fs
 forget_shards b t m n k cs fs e h = mapped_shards (forget_call_of b t) (λ x. refl) m n k cs fs e h
 
 pub later_room : (m n k l : ℕ) (r : LaterRoom) → m ≡ n → k ≡ l → IsLaterRoom n l r → IsLaterRoom m k r

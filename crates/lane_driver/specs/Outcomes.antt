@@ -6,7 +6,8 @@ use Rattle.cbdc_types.specs.declared.calls.NodeFault.{NodeFault}
 use Rattle.cbdc_types.specs.declared.calls.NodeFault.TheVariants.{Memory}
 use Rattle.cbdc_model.specs.Records.{Shape, Batch, Compact, Entry, Outcome}
 use Rattle.lane_laws.specs.Calls.{AreParts}
-use Rattle.lane_laws.specs.Traces.{ToldDiscarded, ToldCommitted, ToldPrepared, ToldBatch, DiscardedStopped, CommittedStopped, PreparedStopped, ToldStopped}
+use Rattle.lane_laws.specs.Traces.{ToldDiscarded, ToldCommitted, ToldPrepared, ToldBatch, DiscardedStopped, CommittedStopped, PreparedStopped}
+use Rattle.lane_laws.specs.Traces.{ToldStopped}
 use Rattle.lane_driver.specs.declared.fault.Stop.{Stop}
 use Rattle.lane_driver.specs.declared.fault.BatchReport.{BatchReport}
 use Rattle.lane_driver.specs.declared.fault.LaneReport.{LaneReport}
@@ -36,7 +37,8 @@ DiscardedResult K alone b cause repeats locks (Err e) old new =
     IsStop K new (DiscardedStopped K alone b cause repeats locks old.home new.home old.shards new.shards) TakesNone e
 
 -- what a batch came to from its Commit on: it was told to its end, or stopped at a call, but not because memory ran out
-abbrev pub CommittedResult : {A : Type 0} → Shape → Bool → Batch → ℕ → List Outcome → ℕ → List (ℕ × LockCall) → Result A Stop → LaneSights → LaneSights → Type 0
+abbrev pub CommittedResult : {A : Type 0} → Shape → Bool → Batch → ℕ → List Outcome → ℕ → List (ℕ × LockCall) → Result A Stop → LaneSights
+    → LaneSights → Type 0
 CommittedResult K alone b cause os repeats locks (Ok a) old new = ToldCommitted alone b cause os repeats locks old.home new.home old.shards new.shards
 CommittedResult K alone b cause os repeats locks (Err e) old new =
     IsStop K new (CommittedStopped K alone b cause os repeats locks old.home new.home old.shards new.shards) TakesNone e
@@ -51,17 +53,20 @@ PreparedResult K alone b cause repeats parts (Err e) old new =
 -- a whole batch was done, cut into its parts
 abbrev pub IsBatchDone : Shape → Bool → ℕ → List Compact → ℕ → LaneSights → LaneSights → BatchReport → Type 0
 IsBatchDone K alone lane txs repeats old new r =
-    (parts : List (ℕ × List Entry)) × AreParts K txs parts × ToldBatch alone lane txs repeats parts old.home new.home old.shards new.shards r.batch r.outcomes
+    (parts : List (ℕ × List Entry)) × AreParts K txs parts
+    × ToldBatch alone lane txs repeats parts old.home new.home old.shards new.shards r.batch r.outcomes
 
 -- or it stopped
 abbrev pub IsBatchStop : Shape → Bool → ℕ → List Compact → ℕ → LaneSights → LaneSights → Stop → Type 0
 IsBatchStop K alone lane txs repeats old new e =
-    (parts : List (ℕ × List Entry)) × AreParts K txs parts × IsStop K new (ToldStopped K alone lane txs repeats parts old.home new.home old.shards new.shards)
+    (parts : List (ℕ × List Entry)) × AreParts K txs parts
+    × IsStop K new (ToldStopped K alone lane txs repeats parts old.home new.home old.shards new.shards)
     (IsWant K alone lane txs parts old.home new.home old.shards new.shards) e
 
 -- the lane's fault is that of a batch that stopped
 abbrev pub IsFaultOfBatch : Shape → Bool → ℕ → List Compact → ℕ → LaneSights → LaneSights → LaneFault → Type 0
-IsFaultOfBatch K alone lane txs repeats old new e = (stop : Stop) × IsLaneFaultOf e stop.node stop.fault × IsBatchStop K alone lane txs repeats old new stop
+IsFaultOfBatch K alone lane txs repeats old new e = (stop : Stop) × IsLaneFaultOf e stop.node stop.fault
+    × IsBatchStop K alone lane txs repeats old new stop
 
 -- or the batch was not begun because the driver ran out of memory
 abbrev pub IsBatchEnd : Shape → Bool → ℕ → List Compact → ℕ → LaneSights → LaneSights → LaneFault → Type 0
@@ -80,7 +85,8 @@ BatchResult K alone lane txs repeats (Err e) old new = IsFaultOfBatch K alone la
 
 -- what the one batch of a lane came to, with its driver's memory
 abbrev pub OneBatchResult : Shape → Bool → ℕ → List Compact → ℕ → Result LaneReport LaneFault → LaneSights → LaneSights → Type 0
-OneBatchResult K alone lane txs repeats (Ok r) old new = (one : BatchReport) × (r.batches ≡ one ∷ []) × IsBatchDone K alone lane txs repeats old new one
+OneBatchResult K alone lane txs repeats (Ok r) old new = (one : BatchReport) × (r.batches ≡ one ∷ [])
+    × IsBatchDone K alone lane txs repeats old new one
 OneBatchResult K alone lane txs repeats (Err e) old new = IsBatchEnd K alone lane txs repeats old new e
 
 -- a lane stopped: these batches, the newest first, are done, and that of the very next piece of what is left stopped, or was not begun because the

@@ -30,4 +30,5 @@ PortsTell log set old new P = P (lane_sights log set old) (lane_sights log set n
 pub record KeepsLanePorts {S L G : Type 0} (log : LogGhosts L) (set : SetGhosts S G) (lane : ℕ) (old new : Ports S L) : Type 0 where
   pub to_log : KeepsLog log.at log.header log.count log.sights log.faults log.holds old.log new.log
   pub to_shards : KeepsShards set.count set.sights set.faults set.holds set.serves old.shards new.shards
-  pub others : log.alone ≡ true → KeepsOtherLanes (log.header old.log) lane (log.phase old.log) (log.phase new.log) (log.open_txs old.log) (log.open_txs new.log)
+  pub others : log.alone ≡ true → KeepsOtherLanes (log.header old.log) lane (log.phase old.log) (log.phase new.log) (log.open_txs old.log)
+      (log.open_txs new.log)

@@ -15,7 +15,8 @@ module _ (K : Shape) (txs : List Compact) (rs : List ShardReplies) (s : ℕ) (be
   abbrev at : ℕ → List Answered
   at k = answered_with (part K.shards k 0 txs) (replies_in (replies_at rs k))
 
-  pub decided_fits : (es : List Answered) → es ≡ at s → entries es ≡ part K.shards s 0 txs → FitsReplies es (decisions (decided K txs rs) (part K.shards s 0 txs))
+  pub decided_fits : (es : List Answered) → es ≡ at s → entries es ≡ part K.shards s 0 txs
+      → FitsReplies es (decisions (decided K txs rs) (part K.shards s 0 txs))
   decided_fits es is parts = subst (λ p. FitsReplies es (decisions (decided K txs rs) p)) parts
       (fits_decisions (decided K txs rs) es
       (agrees_rising (won_at (decided K txs rs)) 0 es (rising_part K.shards s 0 txs es parts)

@@ -21,19 +21,24 @@ left_of_own lane J X ends same = record { more = λ n. (ends n).0; is = λ n. (e
     none n newer rest r e = elim (is_in_lane lane r) as (λ t. is_in_lane lane r ≡ t → t ≡ false) [
       | false ↦ λ t. refl
       | true ↦ λ t. absurd (
-          let a : own lane (X n) ≡ own lane (newer ++ r ∷ rest) ++ own lane (J n) = ap (λ L. own lane L) ((ends n).1 ∙ ap (λ L. L ++ J n) e) ∙ own-append lane (newer ++ r ∷ rest) (J n) in
-          let b : own lane (newer ++ r ∷ rest) ≡ own lane newer ++ r ∷ own lane rest = own-append lane newer (r ∷ rest) ∙ ap (λ L. own lane newer ++ L) (own_in lane r rest t) in
+          let a : own lane (X n) ≡ own lane (newer ++ r ∷ rest) ++ own lane (J n) =
+          ap (λ L. own lane L) ((ends n).1 ∙ ap (λ L. L ++ J n) e) ∙ own-append lane (newer ++ r ∷ rest) (J n) in
+          let b : own lane (newer ++ r ∷ rest) ≡ own lane newer ++ r ∷ own lane rest =
+          own-append lane newer (r ∷ rest) ∙ ap (λ L. own lane newer ++ L) (own_in lane r rest t) in
           let c : own lane (J n) ≡ (own lane newer ++ r ∷ own lane rest) ++ own lane (J n) = sym (same n) ∙ a ∙ ap (λ L. L ++ own lane (J n)) b in
-          let d : length (own lane (J n)) ≡ (length (own lane newer) + suc (length (own lane rest))) + length (own lane (J n)) = ap length c ∙ simp length-append in
+          let d : length (own lane (J n)) ≡ (length (own lane newer) + suc (length (own lane rest))) + length (own lane (J n)) =
+          ap length c ∙ simp length-append in
           omega arith)
     ] refl
 
-own_none : (lane : ℕ) (more : List Record) → ((newer rest : List Record) (r : Record) → more ≡ newer ++ r ∷ rest → is_in_lane lane r ≡ false) → own lane more ≡ []
+own_none : (lane : ℕ) (more : List Record) → ((newer rest : List Record) (r : Record) → more ≡ newer ++ r ∷ rest → is_in_lane lane r ≡ false)
+    → own lane more ≡ []
 own_none lane [] h = refl
 own_none lane (r ∷ more) h = own_out lane r more (h [] more r refl) ∙ own_none lane more (λ newer rest q e. h (r ∷ newer) rest q (ap (λ L. r ∷ L) e))
 
 pub left_own : (lane : ℕ) (J X : ℕ → List Record) → Left lane J X → (n : ℕ) → own lane (X n) ≡ own lane (J n)
-left_own lane J X l n = ap (λ L. own lane L) (l.is n) ∙ own-append lane (l.more n) (J n) ∙ ap (λ L. L ++ own lane (J n)) (own_none lane (l.more n) (λ newer rest r e. l.others n newer rest r e))
+left_own lane J X l n = ap (λ L. own lane L) (l.is n) ∙ own-append lane (l.more n) (J n)
+    ∙ ap (λ L. L ++ own lane (J n)) (own_none lane (l.more n) (λ newer rest r e. l.others n newer rest r e))
 
 -- its Prepares and its idleness at the final journals, from the lane's clause
 pub left_prepared : (lane : ℕ) (J X : ℕ → List Record) → Left lane J X → (n : ℕ) → prepared_of lane (X n) ≡ prepared_of lane (J n)

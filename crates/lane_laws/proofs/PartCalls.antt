@@ -26,10 +26,12 @@ all_there P shards s (x ∷ xs) h =
       | false ↦ all_there P shards s xs h.1
     ]
 
-all_here : (K : Shape) (s node : ℕ) → node ≡ shard_node K s → (xs : List Digest) → AllByRecursion (λ x. shard_node K (shard_of K.shards x) ≡ node) (on_shard K.shards s xs)
+all_here : (K : Shape) (s node : ℕ) → node ≡ shard_node K s → (xs : List Digest)
+    → AllByRecursion (λ x. shard_node K (shard_of K.shards x) ≡ node) (on_shard K.shards s xs)
 all_here K s node e [] = tt
 all_here K s node e (x ∷ xs) =
-    elim (shard_of K.shards x == s) as (λ t. (shard_of K.shards x == s) ≡ t → AllByRecursion (λ y. shard_node K (shard_of K.shards y) ≡ node) (if t then x ∷ on_shard K.shards s xs else on_shard K.shards s xs)) [
+    elim (shard_of K.shards x == s) as (λ t. (shard_of K.shards x == s) ≡ t
+    → AllByRecursion (λ y. shard_node K (shard_of K.shards y) ≡ node) (if t then x ∷ on_shard K.shards s xs else on_shard K.shards s xs)) [
       | true ↦ λ t. (ap (λ m. shard_node K m) (same t) ∙ sym e, all_here K s node e xs)
       | false ↦ λ t. all_here K s node e xs
     ] refl
@@ -96,7 +98,11 @@ rise shards s k limit (t ∷ ts) le =
     elim (is_empty (on_shard shards s t.inputs) && is_empty (on_shard shards s t.outputs))
     as (λ q. PlacesRise k limit (if q then part shards s (suc k) ts else entry_of shards s k t ∷ part shards s (suc k) ts)) [
       | true ↦ lower k (suc k) limit _ (omega arith) (rise shards s (suc k) limit ts (omega (arith, le)))
-      | false ↦ (omega arith, omega (arith, le), subst (λ m. PlacesRise m limit (part shards s (suc k) ts)) (omega arith) (rise shards s (suc k) limit ts (omega (arith, le))))
+      | false ↦ (
+        omega arith,
+        omega (arith, le),
+        subst (λ m. PlacesRise m limit (part shards s (suc k) ts)) (omega arith) (rise shards s (suc k) limit ts (omega (arith, le))),
+      )
     ]
 
 not_none : (es : List Entry) → is_no_part es ≡ false → 1 ≤ length es

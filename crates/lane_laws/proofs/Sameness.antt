@@ -1,5 +1,6 @@
 -- What is kept without a difference is the same.
-use Rattle.std.proofs.Common.{◌≡◌, ℕ, suc, Bool, true, false, ◌&&◌, ◌==◌, if◌then◌else◌, List, [], ◌∷◌, Option, Some, None, option_map, refl, sym, arith}
+use Rattle.std.proofs.Common.{◌≡◌, ℕ, suc, Bool, true, false, ◌&&◌, ◌==◌, if◌then◌else◌, List, [], ◌∷◌, Option, Some, None, option_map, refl, sym}
+use Rattle.std.proofs.Common.{arith}
 use Rattle.cbdc_model.specs.Records.{Digest, same_digest, Entry}
 use Rattle.cbdc_model.specs.Next.{difference, same_entry, same_digests, same_decision}
 use Rattle.ledger_laws.proofs.Counts.{same_digest_is}
@@ -8,13 +9,15 @@ mapped_none : (o : Option ℕ) → option_map (λ n. suc n) o ≡ None → o ≡
 mapped_none None e = refl
 mapped_none (Some n) e = absurd (let z : Some (suc n) ≡ None = e in cc)
 
-pub no_difference : {A : Type 0} (same : A → A → Bool) → ((x y : A) → same x y ≡ true → x ≡ y) → (xs ys : List A) → difference same xs ys ≡ None → xs ≡ ys
+pub no_difference : {A : Type 0} (same : A → A → Bool) → ((x y : A) → same x y ≡ true → x ≡ y) → (xs ys : List A) → difference same xs ys ≡ None
+    → xs ≡ ys
 no_difference same is [] [] e = refl
 no_difference same is [] (y ∷ ys) e = absurd (let z : Some 0 ≡ None = e in cc)
 no_difference same is (x ∷ xs) [] e = absurd (let z : Some 0 ≡ None = e in cc)
 no_difference same is (x ∷ xs) (y ∷ ys) e = go (λ f. no_difference same is xs ys f) (same x y) refl e
   where
-    go : (difference same xs ys ≡ None → xs ≡ ys) → (b : Bool) → same x y ≡ b → (if b then option_map (λ n. suc n) (difference same xs ys) else Some 0) ≡ None → x ∷ xs ≡ y ∷ ys
+    go : (difference same xs ys ≡ None → xs ≡ ys) → (b : Bool) → same x y ≡ b
+        → (if b then option_map (λ n. suc n) (difference same xs ys) else Some 0) ≡ None → x ∷ xs ≡ y ∷ ys
     go more true t e = λ i. is x y t i ∷ more (mapped_none (difference same xs ys) e) i
     go more false t e = absurd (let z : Some 0 ≡ None = e in cc)
 

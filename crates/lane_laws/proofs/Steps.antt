@@ -10,24 +10,32 @@ use Rattle.ledger_laws.proofs.Together.{no_room}
 use Rattle.lane_laws.specs.Batches.{IsFlown}
 
 -- what a node's journal and its record in flight became in a phase that began with journals I; `fails` where its disk may have failed
-pub data StepAt (K : Shape) (pieces : List (List Compact)) (alone : Bool) (lane : ℕ) (fails : Bool) (I : ℕ → List Record) (n : ℕ) (before after : Option Record) (new : List Record) : Type 0 where
+pub data StepAt (K : Shape) (pieces : List (List Compact)) (alone : Bool) (lane : ℕ) (fails : Bool) (I : ℕ → List Record) (n : ℕ)
+    (before after : Option Record) (new : List Record) : Type 0 where
   stays_there : new ≡ I n → after ≡ before → StepAt K pieces alone lane fails I n before after new
-  comes_there : (found : List Record) → Finds alone lane (I n) found → new ≡ found → after ≡ before → StepAt K pieces alone lane fails I n before after new
-  fails_there : fails ≡ true → (found : List Record) (r : Record) → Finds alone lane (I n) found → new ≡ found → after ≡ Some r → is_in_lane lane r ≡ true → Holds pieces r
+  comes_there : (found : List Record) → Finds alone lane (I n) found → new ≡ found → after ≡ before
+      → StepAt K pieces alone lane fails I n before after new
+  fails_there : fails ≡ true → (found : List Record) (r : Record) → Finds alone lane (I n) found → new ≡ found → after ≡ Some r
+      → is_in_lane lane r ≡ true → Holds pieces r
       → IsCaused K (replaced I n found) n r → StepAt K pieces alone lane fails I n before after new
-  makes_there : (found : List Record) (r : Record) → Finds alone lane (I n) found → new ≡ r ∷ found → after ≡ before → is_in_lane lane r ≡ true → Holds pieces r
+  makes_there : (found : List Record) (r : Record) → Finds alone lane (I n) found → new ≡ r ∷ found → after ≡ before → is_in_lane lane r ≡ true
+      → Holds pieces r
       → IsCaused K (replaced I n found) n r → StepAt K pieces alone lane fails I n before after new
 
-may_there : (alone : Bool) (lane : ℕ) (more : List Record) → AllMay alone lane more → (newer rest : List Record) (r : Record) → more ≡ newer ++ r ∷ rest → may_come alone lane r ≡ true
+may_there : (alone : Bool) (lane : ℕ) (more : List Record) → AllMay alone lane more → (newer rest : List Record) (r : Record)
+    → more ≡ newer ++ r ∷ rest → may_come alone lane r ≡ true
 may_there alone lane [] h [] rest r e = absurd (let z : [] ≡ r ∷ rest = e in cc)
 may_there alone lane [] h (q ∷ newer) rest r e = absurd (let z : [] ≡ q ∷ (newer ++ r ∷ rest) = e in cc)
-may_there alone lane (m ∷ more) h [] rest r e = let z : m ∷ more ≡ r ∷ rest = e in let s : m ≡ r = cc in subst (λ q. may_come alone lane q ≡ true) s h.0
-may_there alone lane (m ∷ more) h (q ∷ newer) rest r e = may_there alone lane more h.1 newer rest r (let z : m ∷ more ≡ q ∷ (newer ++ r ∷ rest) = e in cc)
+may_there alone lane (m ∷ more) h [] rest r e = let z : m ∷ more ≡ r ∷ rest = e in let s : m ≡ r = cc in
+    subst (λ q. may_come alone lane q ≡ true) s h.0
+may_there alone lane (m ∷ more) h (q ∷ newer) rest r e =
+    may_there alone lane more h.1 newer rest r (let z : m ∷ more ≡ q ∷ (newer ++ r ∷ rest) = e in cc)
 
 cons_same : (a b : Record) (A B : List Record) → a ∷ A ≡ b ∷ B → (a ≡ b) × (A ≡ B)
 cons_same a b A B e = (cc, cc)
 
-module _ (K : Shape) (pieces : List (List Compact)) (alone : Bool) (lane : ℕ) (fails : Bool) (I J : ℕ → List Record) (before after : ℕ → Option Record) where
+module _ (K : Shape) (pieces : List (List Compact)) (alone : Bool) (lane : ℕ) (fails : Bool) (I J : ℕ → List Record)
+    (before after : ℕ → Option Record) where
   abbrev Step : ℕ → List Record → Type 0
   Step n new = StepAt K pieces alone lane fails I n (before n) (after n) new
 
@@ -40,20 +48,23 @@ module _ (K : Shape) (pieces : List (List Compact)) (alone : Bool) (lane : ℕ) 
   grows_at n new (fails_there q found r f e a i h c) = (f.more, e ∙ f.is)
   grows_at n new (makes_there found r f e a i h c) = (r ∷ f.more, e ∙ ap (λ L. r ∷ L) f.is)
 
-  came : (n : ℕ) (found : List Record) → Finds alone lane (I n) found → (newer rest : List Record) (r : Record) → found ≡ newer ++ r ∷ rest → IsEnd (I n) rest → may_come alone lane r ≡ true
+  came : (n : ℕ) (found : List Record) → Finds alone lane (I n) found → (newer rest : List Record) (r : Record) → found ≡ newer ++ r ∷ rest
+      → IsEnd (I n) rest → may_come alone lane r ≡ true
   came n found f newer rest r e h = elim (cut f.more (I n) newer rest r (sym f.is ∙ e)) [
     | inl g ↦ absurd (no_room (I n) g.0 rest r h.0 h.1 g.1)
     | inr g ↦ may_there alone lane f.more f.between newer g.back r g.more_is
   ]
 
-  owed_at : (n : ℕ) → ((m : ℕ) → IsEnd (I m) (J m)) → Step n (J n) → (newer rest : List Record) (r : Record) → J n ≡ newer ++ r ∷ rest → IsEnd (I n) rest → Owed n rest r
+  owed_at : (n : ℕ) → ((m : ℕ) → IsEnd (I m) (J m)) → Step n (J n) → (newer rest : List Record) (r : Record) → J n ≡ newer ++ r ∷ rest
+      → IsEnd (I n) rest → Owed n rest r
   owed_at n ends (stays_there s q) newer rest r e h = absurd (no_room (I n) newer rest r h.0 h.1 (sym s ∙ e))
   owed_at n ends (comes_there found f s q) newer rest r e h = inl (came n found f newer rest r (sym s ∙ e) h)
   owed_at n ends (fails_there w found q f s a i hold c) newer rest r e h = inl (came n found f newer rest r (sym s ∙ e) h)
-  owed_at n ends (makes_there found q f s a i hold c) newer rest r e h = elim (cut (q ∷ f.more) (I n) newer rest r (ap (λ L. q ∷ L) (sym f.is) ∙ sym s ∙ e)) [
-    | inl g ↦ absurd (no_room (I n) g.0 rest r h.0 h.1 g.1)
-    | inr g ↦ new newer g.back g.rest_is g.more_is
-  ]
+  owed_at n ends (makes_there found q f s a i hold c) newer rest r e h =
+      elim (cut (q ∷ f.more) (I n) newer rest r (ap (λ L. q ∷ L) (sym f.is) ∙ sym s ∙ e)) [
+        | inl g ↦ absurd (no_room (I n) g.0 rest r h.0 h.1 g.1)
+        | inr g ↦ new newer g.back g.rest_is g.more_is
+      ]
     where
       new : (newer back : List Record) → rest ≡ back ++ I n → q ∷ f.more ≡ newer ++ r ∷ back → Owed n rest r
       new (p ∷ newer) back b m = inl (may_there alone lane f.more f.between newer back r (cons_same q p f.more (newer ++ r ∷ back) m).1)
@@ -62,7 +73,11 @@ module _ (K : Shape) (pieces : List (List Compact)) (alone : Bool) (lane : ℕ) 
           let same : found ≡ rest = f.is ∙ ap (λ L. L ++ I n) t.1 ∙ sym b in
           inr (
             subst (λ p. is_in_lane lane p ≡ true) t.0 i,
-            record { lists = I; ends = ends; caused = subst (λ p. IsCaused K (replaced I n rest) n p) t.0 (subst (λ L. IsCaused K (replaced I n L) n q) same c) },
+            record {
+              lists = I;
+              ends = ends;
+              caused = subst (λ p. IsCaused K (replaced I n rest) n p) t.0 (subst (λ L. IsCaused K (replaced I n L) n q) same c);
+            },
             subst (λ p. Holds pieces p) t.0 hold,
           )
 
@@ -91,7 +106,8 @@ module _ (K : Shape) (pieces : List (List Compact)) (alone : Bool) (lane : ℕ) 
         h,
       )
 
-pub unflown_step : (K : Shape) (pieces : List (List Compact)) (alone : Bool) (lane : ℕ) (I : ℕ → List Record) (n : ℕ) (before after : Option Record) (new : List Record)
+pub unflown_step : (K : Shape) (pieces : List (List Compact)) (alone : Bool) (lane : ℕ) (I : ℕ → List Record) (n : ℕ) (before after : Option Record)
+    (new : List Record)
     → StepAt K pieces alone lane false I n before after new → after ≡ before
 unflown_step K pieces alone lane I n before after new (stays_there e q) = q
 unflown_step K pieces alone lane I n before after new (comes_there found f e q) = q

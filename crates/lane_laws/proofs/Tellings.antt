@@ -83,16 +83,19 @@ risen_more : (opened opened' since now : ℕ) → opened' ≡ opened → HasRise
 risen_more opened opened' since now e r h = grind (arith, e, r, h)
 
 -- an answer of a node that isn't broken
-unbroken : {A : Type 0} (broken : Option ℕ) (due : Due A) (f : NodeFault) → ((s : ℕ) → Broken s ≡ f → ⊥) → unless_broken broken due ≡ Answers (Err f) → due ≡ Answers (Err f)
+unbroken : {A : Type 0} (broken : Option ℕ) (due : Due A) (f : NodeFault) → ((s : ℕ) → Broken s ≡ f → ⊥) → unless_broken broken due ≡ Answers (Err f)
+    → due ≡ Answers (Err f)
 unbroken {A = A} (Some since) due f bad e = absurd (bad since (let z : err {A = A} (Broken since) ≡ err f = e in cc))
 unbroken None due f bad e = e
 
-broken_at : {A : Type 0} (opened faults : ℕ) (broken : Option ℕ) (due : Due A) (since : ℕ) → (due ≡ Answers (Err (Broken since)) → ⊥) → unless_broken broken due ≡ Answers (Err (Broken since))
+broken_at : {A : Type 0} (opened faults : ℕ) (broken : Option ℕ) (due : Due A) (since : ℕ) → (due ≡ Answers (Err (Broken since)) → ⊥)
+    → unless_broken broken due ≡ Answers (Err (Broken since))
     → IsBrokenSince opened faults broken → HasRisen opened faults
 broken_at {A = A} opened faults (Some x) due since never e h = risen_more opened opened x faults refl h.0 h.1
 broken_at opened faults None due since never e h = absurd (never e)
 
-pub told_err : {A : Type 0} (alone : Bool) (lane : ℕ) (memory : Bool) (by : List Record → Due A) (old new : Sight) (f : NodeFault) → ((J : List Record) (s : ℕ) → by J ≡ Answers (Err (Broken s)) → ⊥)
+pub told_err : {A : Type 0} (alone : Bool) (lane : ℕ) (memory : Bool) (by : List Record → Due A) (old new : Sight) (f : NodeFault)
+    → ((J : List Record) (s : ℕ) → by J ≡ Answers (Err (Broken s)) → ⊥)
     → Told alone lane memory (λ broken J. unless_broken broken (by J)) old new (Err f) → Stopped alone lane memory by old new f
 told_err {A = A} alone lane memory by old new f never t = go f t.meets
   where
@@ -111,13 +114,15 @@ told_err {A = A} alone lane memory by old new f never t = go f t.meets
     }
     go Memory h = stays Memory h.1 tt h.0
     go (Broken since) h = stays (Broken since) h.1
-        (subst (λ n. HasRisen n new.faults) (sym h.1.node.opened) (broken_at old.opened new.faults t.broken (by t.found) since (never t.found since) h.0 t.since)) tt
+        (subst (λ n. HasRisen n new.faults) (sym h.1.node.opened)
+        (broken_at old.opened new.faults t.broken (by t.found) since (never t.found since) h.0 t.since)) tt
     go (Refuses why) h = stays (Refuses why) h.1 tt (unbroken t.broken (by t.found) (Refuses why) (λ s e. cc) h.0)
     go (ClockEnd stamp) h = stays (ClockEnd stamp) h.1 tt (unbroken t.broken (by t.found) (ClockEnd stamp) (λ s e. cc) h.0)
     go (Full used need capacity) h = stays (Full used need capacity) h.1 tt (unbroken t.broken (by t.found) (Full used need capacity) (λ s e. cc) h.0)
 
 -- what it owed on the journal that is seen at last
-pub answered : {A : Type 0} (alone : Bool) (lane : ℕ) (memory : Bool) (by : List Record → Due A) (old new : Sight) (f : NodeFault) → Stopped alone lane memory by old new f → IsAnswered memory (by new.seen) new f
+pub answered : {A : Type 0} (alone : Bool) (lane : ℕ) (memory : Bool) (by : List Record → Due A) (old new : Sight) (f : NodeFault)
+    → Stopped alone lane memory by old new f → IsAnswered memory (by new.seen) new f
 answered alone lane memory by old new (Broken since) s = s.risen
 answered alone lane memory by old new (Refuses why) s = subst (λ L. by L ≡ Answers (Err (Refuses why))) (sym s.seen) s.why
 answered alone lane memory by old new (ClockEnd stamp) s = subst (λ L. by L ≡ Answers (Err (ClockEnd stamp))) (sym s.seen) s.why

@@ -1,6 +1,8 @@
 -- A whole new batch of a settled lane: exactly its records, and the lane is settled again.
-use Rattle.std.proofs.Common.{◌≡◌, ◌⊎◌, inl, inr, ℕ, suc, ◌<◌, Bool, true, false, ◌&&◌, ◌==◌, if◌then◌else◌, List, [], ◌∷◌, ◌++◌, Some, None, refl, sym, ap, ◌∙◌, subst, arith}
-use Rattle.cbdc_model.specs.Records.{Batch, same_batch, Compact, Entry, Outcome, Record, Shape, is_in_lane, kind_of, is_of, record_of, last_stamp, stamp_in, Lock, Finish, Forget, Prepare, Commit, Discard, Done}
+use Rattle.std.proofs.Common.{◌≡◌, ◌⊎◌, inl, inr, ℕ, suc, ◌<◌, Bool, true, false, ◌&&◌, ◌==◌, if◌then◌else◌, List, [], ◌∷◌, ◌++◌, Some, None, refl}
+use Rattle.std.proofs.Common.{sym, ap, ◌∙◌, subst, arith}
+use Rattle.cbdc_model.specs.Records.{Batch, same_batch, Compact, Entry, Outcome, Record, Shape, is_in_lane, kind_of, is_of, record_of, last_stamp}
+use Rattle.cbdc_model.specs.Records.{stamp_in, Lock, Finish, Forget, Prepare, Commit, Discard, Done}
 use Rattle.cbdc_model.specs.Slots.{slot, slot_stamp, Idle, InLock, InPrepare}
 use Rattle.cbdc_model.specs.Outcomes.{decisions}
 use Rattle.cbdc_model.specs.Ranges.{part}
@@ -49,16 +51,20 @@ which false = inr refl
 in_prepare : InPrepare ≡ Idle → ⊥
 in_prepare h = let z : InPrepare ≡ Idle = h in cc
 
-pub opened : (K : Shape) (lane k : ℕ) (txs : List Compact) (log log' : Sight) (t : ℕ) → log.header.shape ≡ K → LogStep lane log log' (Prepare t (batch_of lane k) txs) → Open K lane (suc k) txs log' t
+pub opened : (K : Shape) (lane k : ℕ) (txs : List Compact) (log log' : Sight) (t : ℕ) → log.header.shape ≡ K
+    → LogStep lane log log' (Prepare t (batch_of lane k) txs) → Open K lane (suc k) txs log' t
 opened K lane k txs log log' t shape s = record {
-  prepare = ap (λ L. record_of 6 L (batch_of lane k)) s.seen_is ∙ (let z : same_batch (batch_of lane k) (batch_of lane k) ≡ true = same_batch_self (batch_of lane k) in rw z);
+  prepare = ap (λ L. record_of 6 L (batch_of lane k)) s.seen_is
+      ∙ (let z : same_batch (batch_of lane k) (batch_of lane k) ≡ true = same_batch_self (batch_of lane k) in rw z);
   open_number = ap (λ L. (slot L lane).number) s.seen_is ∙ (let z : (lane == lane) ≡ true = same_number lane in rw z);
   busy = λ h. in_prepare (sym (ap (λ L. (slot L lane).phase) s.seen_is ∙ (let z : (lane == lane) ≡ true = same_number lane in rw z)) ∙ h);
   shape = s.shape ∙ shape;
 }
 
-module _ (K : Shape) (alone : Bool) (lane k : ℕ) (txs : List Compact) (log log1 log' : Sight) (I J : ℕ → Sight) (st : Settled K lane k log I) (t : ℕ) (os : List Outcome)
-    (first : LogStep lane log log1 (Prepare t (batch_of lane k) txs)) (moved : Moved K (txs ∷ []) alone lane log I log1 I) (r : PreparedRun K (txs ∷ []) alone lane (suc k) st.home txs log1 log' I J os) where
+module _ (K : Shape) (alone : Bool) (lane k : ℕ) (txs : List Compact) (log log1 log' : Sight) (I J : ℕ → Sight) (st : Settled K lane k log I) (t : ℕ)
+    (os : List Outcome)
+    (first : LogStep lane log log1 (Prepare t (batch_of lane k) txs)) (moved : Moved K (txs ∷ []) alone lane log I log1 I)
+    (r : PreparedRun K (txs ∷ []) alone lane (suc k) st.home txs log1 log' I J os) where
   abbrev B : Batch
   B = batch_of lane k
 
@@ -81,29 +87,38 @@ module _ (K : Shape) (alone : Bool) (lane k : ℕ) (txs : List Compact) (log log
   }
 
   own_log : own lane log'.seen ≡ Done r.rest.ended B ∷ Discard r.rest.discarded B ∷ Commit r.committed B os ∷ Prepare t B txs ∷ own lane log.seen
-  own_log = r.rest.log_own ∙ ap (λ L. Done r.rest.ended B ∷ Discard r.rest.discarded B ∷ L) (r.commit.own_is ∙ ap (λ L. Commit r.committed B os ∷ L) first.own_is)
+  own_log = r.rest.log_own ∙ ap (λ L. Done r.rest.ended B ∷ Discard r.rest.discarded B ∷ L)
+      (r.commit.own_is ∙ ap (λ L. Commit r.committed B os ∷ L) first.own_is)
 
   lock_added : (s : ℕ) → is_concerned K txs s ≡ true
-      → own lane (r.before_finish s).seen ≡ Lock (reply_stamp (replies_at r.replies s)) B (answered_with (part K.shards s 0 txs) (replies_in (replies_at r.replies s))) ∷ own lane (I s).seen
+      → own lane (r.before_finish s).seen ≡ Lock (reply_stamp (replies_at r.replies s)) B
+      (answered_with (part K.shards s 0 txs) (replies_in (replies_at r.replies s))) ∷ own lane (I s).seen
   lock_added s c = elim ((r.locked s).adds c) [
     | inl e ↦ e
     | inr n ↦ absurd (omega (arith, n, st.shard_number s))
   ]
 
-  own_shard : (s : ℕ) → is_concerned K txs s ≡ true → own lane (J s).seen ≡ Forget (r.rest.ends s) B ∷ Finish (r.rest.fins s) B (decisions os (part K.shards s 0 txs))
-      ∷ Lock (reply_stamp (replies_at r.replies s)) B (answered_with (part K.shards s 0 txs) (replies_in (replies_at r.replies s))) ∷ own lane (I s).seen
-  own_shard s c = (r.rest.shards s).adds c in_lock ∙ ap (λ L. Forget (r.rest.ends s) B ∷ Finish (r.rest.fins s) B (decisions os (part K.shards s 0 txs)) ∷ L) (lock_added s c)
+  own_shard : (s : ℕ) → is_concerned K txs s ≡ true
+      → own lane (J s).seen ≡ Forget (r.rest.ends s) B ∷ Finish (r.rest.fins s) B (decisions os (part K.shards s 0 txs))
+      ∷ Lock (reply_stamp (replies_at r.replies s)) B (answered_with (part K.shards s 0 txs) (replies_in (replies_at r.replies s)))
+      ∷ own lane (I s).seen
+  own_shard s c = (r.rest.shards s).adds c in_lock
+      ∙ ap (λ L. Forget (r.rest.ends s) B ∷ Finish (r.rest.fins s) B (decisions os (part K.shards s 0 txs)) ∷ L) (lock_added s c)
     where
       in_lock : (slot (r.before_finish s).seen lane).phase ≡ InLock
-      in_lock = ap (λ q. q.phase) (slot_front lane (r.before_finish s).seen (own lane (I s).seen) (Lock (reply_stamp (replies_at r.replies s)) B (answered_with (part K.shards s 0 txs) (replies_in (replies_at r.replies s)))) (lock_added s c))
+      in_lock = ap (λ q. q.phase) (slot_front lane (r.before_finish s).seen (own lane (I s).seen)
+          (Lock (reply_stamp (replies_at r.replies s)) B (answered_with (part K.shards s 0 txs) (replies_in (replies_at r.replies s))))
+          (lock_added s c))
           ∙ (let z : (lane == lane) ≡ true = itself in rw z)
 
   own_other : (s : ℕ) → is_concerned K txs s ≡ false → own lane (J s).seen ≡ own lane (I s).seen
   own_other s c = (r.rest.shards s).others c ∙ (r.locked s).others c
 
   shard_grew : (s : ℕ) → own lane (J s).seen ≡ at_shard K recorded txs s ++ own lane (I s).seen
-  shard_grew s = elim (is_concerned K txs s) as (λ c. is_concerned K txs s ≡ c → own lane (J s).seen ≡ (if c then Forget (r.rest.ends s) B ∷ Finish (r.rest.fins s) B (decisions os (part K.shards s 0 txs))
-      ∷ Lock (reply_stamp (replies_at r.replies s)) B (answered_with (part K.shards s 0 txs) (replies_in (replies_at r.replies s))) ∷ [] else []) ++ own lane (I s).seen) [
+  shard_grew s = elim (is_concerned K txs s) as (λ c. is_concerned K txs s ≡ c
+      → own lane (J s).seen ≡ (if c then Forget (r.rest.ends s) B ∷ Finish (r.rest.fins s) B (decisions os (part K.shards s 0 txs))
+      ∷ Lock (reply_stamp (replies_at r.replies s)) B (answered_with (part K.shards s 0 txs) (replies_in (replies_at r.replies s))) ∷ []
+      else []) ++ own lane (I s).seen) [
         | true ↦ λ c. own_shard s c
         | false ↦ λ c. own_other s c
       ] refl
@@ -112,7 +127,8 @@ module _ (K : Shape) (alone : Bool) (lane k : ℕ) (txs : List Compact) (log log
   same_slot s c = slot_own lane (J s).seen ∙ ap (λ L. slot L lane) (own_other s c) ∙ sym (slot_own lane (I s).seen)
 
   end_slot : slot log'.seen lane ≡ record { number = suc k; phase = Idle }
-  end_slot = slot_front lane log'.seen (Discard r.rest.discarded B ∷ Commit r.committed B os ∷ Prepare t B txs ∷ own lane log.seen) (Done r.rest.ended B) own_log ∙ (let z : (lane == lane) ≡ true = itself in rw z)
+  end_slot = slot_front lane log'.seen (Discard r.rest.discarded B ∷ Commit r.committed B os ∷ Prepare t B txs ∷ own lane log.seen)
+      (Done r.rest.ended B) own_log ∙ (let z : (lane == lane) ≡ true = itself in rw z)
 
   later : last_stamp log.seen < r.rest.ended
   later =
@@ -120,7 +136,8 @@ module _ (K : Shape) (alone : Bool) (lane k : ℕ) (txs : List Compact) (log log
       omega (arith, a, b, c, d, e)
 
   abbrev shard_news : ℕ → List Record
-  shard_news s = Forget (r.rest.ends s) B ∷ Finish (r.rest.fins s) B (decisions os (part K.shards s 0 txs)) ∷ Lock (reply_stamp (replies_at r.replies s)) B (answered_with (part K.shards s 0 txs) (replies_in (replies_at r.replies s))) ∷ []
+  shard_news s = Forget (r.rest.ends s) B ∷ Finish (r.rest.fins s) B (decisions os (part K.shards s 0 txs))
+      ∷ Lock (reply_stamp (replies_at r.replies s)) B (answered_with (part K.shards s 0 txs) (replies_in (replies_at r.replies s))) ∷ []
 
   settled_after : Settled K lane (suc k) log' J
   settled_after = record {
@@ -134,22 +151,28 @@ module _ (K : Shape) (alone : Bool) (lane k : ℕ) (txs : List Compact) (log log
     ];
     shard_number = λ s. elim (which (is_concerned K txs s)) [
       | inl c ↦ (let n = (r.rest.shards s).number_is c in omega (arith, n))
-      | inr c ↦ (let n : (slot (J s).seen lane).number ≡ (slot (I s).seen lane).number = ap (λ q. q.number) (same_slot s c) in omega (arith, n, st.shard_number s))
+      | inr c ↦ (let n : (slot (J s).seen lane).number ≡ (slot (I s).seen lane).number = ap (λ q. q.number) (same_slot s c) in
+          omega (arith, n, st.shard_number s))
     ];
     shard_stamp = λ s. elim (which (is_concerned K txs s)) [
       | inl c ↦ (
           let f : slot_stamp (J s).seen lane ≡ r.rest.ends s
-          = stamp_front lane (J s).seen (Finish (r.rest.fins s) B (decisions os (part K.shards s 0 txs)) ∷ Lock (reply_stamp (replies_at r.replies s)) B (answered_with (part K.shards s 0 txs) (replies_in (replies_at r.replies s))) ∷ own lane (I s).seen)
+          = stamp_front lane (J s).seen (Finish (r.rest.fins s) B (decisions os (part K.shards s 0 txs))
+          ∷ Lock (reply_stamp (replies_at r.replies s)) B (answered_with (part K.shards s 0 txs) (replies_in (replies_at r.replies s)))
+          ∷ own lane (I s).seen)
           (Forget (r.rest.ends s) B) (own_shard s c) itself in
           let a = r.rest.above s (in_range K txs s c) in let e = r.rest.newest in omega (arith, f, a, e))
       | inr c ↦ (
-          let f : slot_stamp (J s).seen lane ≡ slot_stamp (I s).seen lane = stamp_own lane (J s).seen ∙ ap (λ L. slot_stamp L lane) (own_other s c) ∙ sym (stamp_own lane (I s).seen) in
+          let f : slot_stamp (J s).seen lane ≡ slot_stamp (I s).seen lane =
+          stamp_own lane (J s).seen ∙ ap (λ L. slot_stamp L lane) (own_other s c) ∙ sym (stamp_own lane (I s).seen) in
           let e = r.rest.newest in omega (arith, f, e, st.shard_stamp s, later))
     ];
     fresh_log = λ kind b h lt.
         let z : same_batch B b ≡ false = differs lane k b lt in
-        look kind lane b log'.seen log.seen (Done r.rest.ended B ∷ Discard r.rest.discarded B ∷ Commit r.committed B os ∷ Prepare t B txs ∷ []) own_log h (st.fresh_log kind b h (omega (arith, lt)))
-        ∙ not_here kind b (Done r.rest.ended B) (Discard r.rest.discarded B ∷ Commit r.committed B os ∷ Prepare t B txs ∷ []) z ∙ not_here kind b (Discard r.rest.discarded B) (Commit r.committed B os ∷ Prepare t B txs ∷ []) z
+        look kind lane b log'.seen log.seen (Done r.rest.ended B ∷ Discard r.rest.discarded B ∷ Commit r.committed B os ∷ Prepare t B txs ∷ [])
+        own_log h (st.fresh_log kind b h (omega (arith, lt)))
+        ∙ not_here kind b (Done r.rest.ended B) (Discard r.rest.discarded B ∷ Commit r.committed B os ∷ Prepare t B txs ∷ []) z
+        ∙ not_here kind b (Discard r.rest.discarded B) (Commit r.committed B os ∷ Prepare t B txs ∷ []) z
         ∙ not_here kind b (Commit r.committed B os) (Prepare t B txs ∷ []) z ∙ not_here kind b (Prepare t B txs) [] z;
     fresh_shard = λ s kind b h lt.
         let z : same_batch B b ≡ false = differs lane k b lt in
@@ -157,9 +180,14 @@ module _ (K : Shape) (alone : Bool) (lane k : ℕ) (txs : List Compact) (log log
         elim (which (is_concerned K txs s)) [
           | inr c ↦ same_record kind lane b (I s).seen (J s).seen h (own_other s c) ∙ old
           | inl c ↦ look kind lane b (J s).seen (I s).seen (shard_news s) (own_shard s c) h old
-              ∙ not_here kind b (Forget (r.rest.ends s) B) (Finish (r.rest.fins s) B (decisions os (part K.shards s 0 txs)) ∷ Lock (reply_stamp (replies_at r.replies s)) B (answered_with (part K.shards s 0 txs) (replies_in (replies_at r.replies s))) ∷ []) z
-              ∙ not_here kind b (Finish (r.rest.fins s) B (decisions os (part K.shards s 0 txs))) (Lock (reply_stamp (replies_at r.replies s)) B (answered_with (part K.shards s 0 txs) (replies_in (replies_at r.replies s))) ∷ []) z
-              ∙ not_here kind b (Lock (reply_stamp (replies_at r.replies s)) B (answered_with (part K.shards s 0 txs) (replies_in (replies_at r.replies s)))) [] z
+              ∙ not_here kind b (Forget (r.rest.ends s) B)
+              (Finish (r.rest.fins s) B (decisions os (part K.shards s 0 txs))
+              ∷ Lock (reply_stamp (replies_at r.replies s)) B (answered_with (part K.shards s 0 txs) (replies_in (replies_at r.replies s))) ∷ [])
+              z
+              ∙ not_here kind b (Finish (r.rest.fins s) B (decisions os (part K.shards s 0 txs)))
+              (Lock (reply_stamp (replies_at r.replies s)) B (answered_with (part K.shards s 0 txs) (replies_in (replies_at r.replies s))) ∷ []) z
+              ∙ not_here kind b (Lock (reply_stamp (replies_at r.replies s)) B
+              (answered_with (part K.shards s 0 txs) (replies_in (replies_at r.replies s)))) [] z
         ];
   }
 
@@ -179,8 +207,10 @@ module _ (K : Shape) (alone : Bool) (lane k : ℕ) (txs : List Compact) (log log
       all = moved_on K (txs ∷ []) alone lane log log1 log' I I J moved r.moved
 
 -- the whole batch, from what was told of its calls
-pub batch_done : (K : Shape) (alone : Bool) (lane k : ℕ) (txs : List Compact) (repeats : ℕ) (parts : List (ℕ × List Entry)) (log log' : Sight) (I J : ℕ → Sight) (b : Batch) (os : List Outcome)
-    → Settled K lane k log I → AreParts K txs parts → ToldBatch alone lane txs repeats parts log log' I J b os → BatchDone K alone lane k txs log I log' J b os
+pub batch_done : (K : Shape) (alone : Bool) (lane k : ℕ) (txs : List Compact) (repeats : ℕ) (parts : List (ℕ × List Entry)) (log log' : Sight)
+    (I J : ℕ → Sight) (b : Batch) (os : List Outcome)
+    → Settled K lane k log I → AreParts K txs parts → ToldBatch alone lane txs repeats parts log log' I J b os
+    → BatchDone K alone lane k txs log I log' J b os
 batch_done K alone lane k txs repeats parts log log' I J b os st are told =
     let p = prepare_ok K alone lane k st.home txs log told.log_prepared I st.number b told.prepared told.prepare in
     subst (λ c. BatchDone K alone lane k txs log I log' J c os) (sym p.0)

@@ -1,5 +1,6 @@
 -- What of a file is still to go to a lane.
-use Rattle.std.proofs.Common.{◌≡◌, ◌≢◌, ◌⊎◌, inl, inr, ℕ, zero, suc, ◌+◌, ◌*◌, ◌%◌, ◌<◌, ◌≤◌, Bool, true, false, ◌==◌, List, [], ◌∷◌, ◌++◌, length, map, take, drop, if◌then◌else◌, refl, sym, ap, ◌∙◌, subst, arith}
+use Rattle.std.proofs.Common.{◌≡◌, ◌≢◌, ◌⊎◌, inl, inr, ℕ, zero, suc, ◌+◌, ◌*◌, ◌%◌, ◌<◌, ◌≤◌, Bool, true, false, ◌==◌, List, [], ◌∷◌, ◌++◌, length}
+use Rattle.std.proofs.Common.{map, take, drop, if◌then◌else◌, refl, sym, ap, ◌∙◌, subst, arith}
 use Rattle.std.specs.Prelude.{slice_get, Option, Some, None}
 use Rattle.std.specs.List.{filter}
 use Rattle.std.proofs.lemmas.Bool.Decides.{eqb_tells}
@@ -39,20 +40,24 @@ mod_of n q lane within = ap (λ j. j % n) (swap n q lane) ∙ mod-mul-add q n la
     swap n q lane = omega arith
 
 -- places that go elsewhere are passed over
-pub share_skip : {A : Type 0} (n lane k m : ℕ) (xs : List A) → ((i : ℕ) → i < m → (k + i) % n ≢ lane) → share n lane k xs ≡ share n lane (k + m) (drop m xs)
+pub share_skip : {A : Type 0} (n lane k m : ℕ) (xs : List A) → ((i : ℕ) → i < m → (k + i) % n ≢ lane)
+    → share n lane k xs ≡ share n lane (k + m) (drop m xs)
 share_skip n lane k zero xs other = ap (λ j. share n lane j xs) (omega arith)
 share_skip n lane k (suc m) [] other = refl
 share_skip n lane k (suc m) (x ∷ xs) other =
-    if_false (k % n == lane) (x ∷ share n lane (suc k) xs) (share n lane (suc k) xs) (eqb_false (k % n) lane (λ e. other 0 (omega arith) (ap (λ j. j % n) (omega arith) ∙ e)))
+    if_false (k % n == lane) (x ∷ share n lane (suc k) xs) (share n lane (suc k) xs)
+    (eqb_false (k % n) lane (λ e. other 0 (omega arith) (ap (λ j. j % n) (omega arith) ∙ e)))
     ∙ share_skip n lane (suc k) m xs (λ i low e. other (suc i) (omega (arith, low)) (ap (λ j. j % n) (omega arith) ∙ e))
     ∙ ap (λ j. share n lane j (drop m xs)) (omega arith)
 
 share_append : {A : Type 0} (n lane k : ℕ) (xs ys : List A) → share n lane k (xs ++ ys) ≡ share n lane k xs ++ share n lane (k + length xs) ys
 share_append n lane k [] ys = ap (λ j. share n lane j ys) (omega arith)
-share_append n lane k (x ∷ xs) ys = front (k % n == lane) (share_append n lane (suc k) xs ys ∙ ap (λ j. share n lane (suc k) xs ++ share n lane j ys) (omega arith))
+share_append n lane k (x ∷ xs) ys = front (k % n == lane)
+    (share_append n lane (suc k) xs ys ∙ ap (λ j. share n lane (suc k) xs ++ share n lane j ys) (omega arith))
   where
     front : (b : Bool) → share n lane (suc k) (xs ++ ys) ≡ share n lane (suc k) xs ++ share n lane (k + suc (length xs)) ys
-        → (if b then x ∷ share n lane (suc k) (xs ++ ys) else share n lane (suc k) (xs ++ ys)) ≡ (if b then x ∷ share n lane (suc k) xs else share n lane (suc k) xs) ++ share n lane (k + suc (length xs)) ys
+        → (if b then x ∷ share n lane (suc k) (xs ++ ys) else share n lane (suc k) (xs ++ ys))
+        ≡ (if b then x ∷ share n lane (suc k) xs else share n lane (suc k) xs) ++ share n lane (k + suc (length xs)) ys
     front true e = ap (λ l. x ∷ l) e
     front false e = e
 
@@ -95,7 +100,9 @@ module _ (K : Shape) (sound : FullTx → Bool) (file : List FullTx) (lane : ℕ)
   left_end at past = ap (λ xs. map compact (filter sound (share n lane at xs))) (drop_all at file past)
 
   pub left_begin : sent_to K sound file lane ≡ left lane
-  left_begin = ap (λ xs. map compact (filter sound xs)) (share_skip n lane 0 lane file (λ i low e. let m : i % n ≡ i = small i (omega (arith, low, within)) in let f : i ≡ lane = sym m ∙ (ap (λ j. j % n) (sym (zero_add i)) ∙ e) in omega (arith, f, low)) ∙ ap (λ j. share n lane j (drop lane file)) (zero_add lane))
+  left_begin = ap (λ xs. map compact (filter sound xs))
+      (share_skip n lane 0 lane file (λ i low e. let m : i % n ≡ i = small i (omega (arith, low, within)) in let f : i ≡ lane =
+      sym m ∙ (ap (λ j. j % n) (sym (zero_add i)) ∙ e) in omega (arith, f, low)) ∙ ap (λ j. share n lane j (drop lane file)) (zero_add lane))
     where
       small : (i : ℕ) → i < n → i % n ≡ i
       small i low = ap (λ j. j % n) (none_and n i) ∙ mod-mul-add 0 n i low
@@ -104,7 +111,8 @@ module _ (K : Shape) (sound : FullTx → Bool) (file : List FullTx) (lane : ℕ)
       → share n lane (lane + n * q) (drop (lane + n * q) file) ≡ t ∷ share n lane (lane + n * q + n) (drop (lane + n * q + n) file)
   share_at q t there =
       ap (λ xs. share n lane at xs) (drop_get at file t there)
-      ∙ if_true (at % n == lane) (t ∷ share n lane (suc at) (drop (suc at) file)) (share n lane (suc at) (drop (suc at) file)) (eqb_true (at % n) lane here)
+      ∙ if_true (at % n == lane) (t ∷ share n lane (suc at) (drop (suc at) file)) (share n lane (suc at) (drop (suc at) file))
+      (eqb_true (at % n) lane here)
       ∙ ap (λ xs. t ∷ xs) (next n refl)
     where
       at : ℕ
@@ -125,14 +133,17 @@ module _ (K : Shape) (sound : FullTx → Bool) (file : List FullTx) (lane : ℕ)
           ∙ ap (λ xs. share n lane (suc at + m) xs) (drop-drop m (suc at) file)
           ∙ ap (λ j. share n lane j (drop j file)) (omega (arith, is))
 
-  pub left_sound : (q : ℕ) (t : FullTx) → slice_get file (lane + n * q) ≡ Some t → sound t ≡ true → left (lane + n * q) ≡ compact t ∷ left (lane + n * q + n)
-  left_sound q t there is = ap (λ xs. map compact (filter sound xs)) (share_at q t there) ∙ ap (λ xs. map compact xs) (if_true (sound t) (t ∷ more) more is)
+  pub left_sound : (q : ℕ) (t : FullTx) → slice_get file (lane + n * q) ≡ Some t → sound t ≡ true
+      → left (lane + n * q) ≡ compact t ∷ left (lane + n * q + n)
+  left_sound q t there is = ap (λ xs. map compact (filter sound xs)) (share_at q t there)
+      ∙ ap (λ xs. map compact xs) (if_true (sound t) (t ∷ more) more is)
     where
       more : List FullTx
       more = filter sound (share n lane (lane + n * q + n) (drop (lane + n * q + n) file))
 
   pub left_refused : (q : ℕ) (t : FullTx) → slice_get file (lane + n * q) ≡ Some t → sound t ≡ false → left (lane + n * q) ≡ left (lane + n * q + n)
-  left_refused q t there is = ap (λ xs. map compact (filter sound xs)) (share_at q t there) ∙ ap (λ xs. map compact xs) (if_false (sound t) (t ∷ more) more is)
+  left_refused q t there is = ap (λ xs. map compact (filter sound xs)) (share_at q t there)
+      ∙ ap (λ xs. map compact xs) (if_false (sound t) (t ∷ more) more is)
     where
       more : List FullTx
       more = filter sound (share n lane (lane + n * q + n) (drop (lane + n * q + n) file))
@@ -141,7 +152,9 @@ module _ (K : Shape) (sound : FullTx → Bool) (file : List FullTx) (lane : ℕ)
   pub left_split : (at : ℕ) → at ≤ length file → sent_to K sound file lane ≡ sent_to K sound (take at file) lane ++ left at
   left_split at inside =
       ap (λ xs. map compact (filter sound (share n lane 0 xs))) (sym (take-append-drop at file))
-      ∙ ap (λ xs. map compact (filter sound xs)) (share_append n lane 0 (take at file) (drop at file) ∙ ap (λ j. share n lane 0 (take at file) ++ share n lane j (drop at file)) (let z : 0 + length (take at file) ≡ at = ap (λ m. 0 + m) (length-take-le at file inside) ∙ zero_add at in z))
+      ∙ ap (λ xs. map compact (filter sound xs)) (share_append n lane 0 (take at file) (drop at file)
+      ∙ ap (λ j. share n lane 0 (take at file) ++ share n lane j (drop at file))
+      (let z : 0 + length (take at file) ≡ at = ap (λ m. 0 + m) (length-take-le at file inside) ∙ zero_add at in z))
       ∙ ap (λ xs. map compact xs) (filter-append sound (share n lane 0 (take at file)) (share n lane at (drop at file)))
       ∙ map-append compact (filter sound (share n lane 0 (take at file))) (filter sound (share n lane at (drop at file)))
 
@@ -156,8 +169,10 @@ module _ (K : Shape) (sound : FullTx → Bool) (file : List FullTx) (lane : ℕ)
       more = subst (λ j. length (left j) ≤ m) (sym (next n q)) few
 
       sound_or : (t : FullTx) → slice_get file (lane + n * q) ≡ Some t → (b : Bool) → sound t ≡ b → length (left (lane + n * q)) ≤ suc m
-      sound_or t there true is = let e : length (left (lane + n * q)) ≡ suc (length (left (lane + n * q + n))) = ap (λ xs. length xs) (left_sound q t there is) in omega (arith, e, more)
-      sound_or t there false is = let e : length (left (lane + n * q)) ≡ length (left (lane + n * q + n)) = ap (λ xs. length xs) (left_refused q t there is) in omega (arith, e, more)
+      sound_or t there true is = let e : length (left (lane + n * q)) ≡ suc (length (left (lane + n * q + n))) =
+          ap (λ xs. length xs) (left_sound q t there is) in omega (arith, e, more)
+      sound_or t there false is = let e : length (left (lane + n * q)) ≡ length (left (lane + n * q + n)) =
+          ap (λ xs. length xs) (left_refused q t there is) in omega (arith, e, more)
 
       go : (o : Option FullTx) → slice_get file (lane + n * q) ≡ o → length (left (lane + n * q)) ≤ suc m
       go None e = let past_it : length file ≤ lane + n * q = beyond file (lane + n * q) e in
@@ -165,7 +180,8 @@ module _ (K : Shape) (sound : FullTx → Bool) (file : List FullTx) (lane : ℕ)
       go (Some t) e = sound_or t e (sound t) refl
 
   pub left_few : (m q : ℕ) → length file ≤ lane + n * q + n * m → length (left (lane + n * q)) ≤ m
-  left_few zero q past = let e : length (left (lane + n * q)) ≡ 0 = ap (λ xs. length xs) (left_end (lane + n * q) (omega (arith, past))) in omega (arith, e)
+  left_few zero q past = let e : length (left (lane + n * q)) ≡ 0 = ap (λ xs. length xs) (left_end (lane + n * q) (omega (arith, past))) in
+      omega (arith, e)
   left_few (suc m) q past = few_more m q (left_few m (suc q) (shift n q m past))
     where
       shift : (n q m : ℕ) → length file ≤ lane + n * q + n * suc m → length file ≤ lane + n * suc q + n * m

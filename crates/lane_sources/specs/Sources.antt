@@ -34,7 +34,8 @@ left_at K verdicts file lane at = map compact (filter (sound_by verdicts) (share
 
 -- what was said of the first submissions of a lane, in order: the i-th stands at place lane + i * lanes
 abbrev pub AreSaid : Shape → VerdictsOf → List FullTx → ℕ → List Checked → Type 0
-AreSaid K verdicts file lane checked = (i : ℕ) (c : Checked) (t : FullTx) → slice_get checked i ≡ Some c → slice_get file (lane + count_of_lanes K * i) ≡ Some t
+AreSaid K verdicts file lane checked = (i : ℕ) (c : Checked) (t : FullTx) → slice_get checked i ≡ Some c
+    → slice_get file (lane + count_of_lanes K * i) ≡ Some t
     → (c.id ≡ tx_id t) × IsSaid K verdicts file (lane + count_of_lanes K * i) t c.judgement
 
 -- it has come to this place: it said so much of the submissions before it, `sent` of which are sound

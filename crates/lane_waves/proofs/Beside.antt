@@ -1,5 +1,6 @@
 -- An auditor's lane beside those of a row: a lock has a seat for it, behind all others.
-use Rattle.std.proofs.Common.{◌≡◌, ℕ, ◌+◌, ◌<◌, ◌≤◌, Bool, true, false, eqb, List, [], ◌∷◌, ◌++◌, length, Option, Some, refl, sym, ap, ◌∙◌, subst, arith}
+use Rattle.std.proofs.Common.{◌≡◌, ℕ, ◌+◌, ◌<◌, ◌≤◌, Bool, true, false, eqb, List, [], ◌∷◌, ◌++◌, length, Option, Some, refl, sym, ap, ◌∙◌, subst}
+use Rattle.std.proofs.Common.{arith}
 use Rattle.std.proofs.lemmas.Grind.{common_steps}
 use Rattle.cbdc_model.specs.Sights.{Sight}
 use Rattle.node_lock.specs.declared.lock.Guarded.{Guarded}
@@ -43,8 +44,10 @@ apart_beside w ls k x = go (eqb x w) refl
         omega (arith, before, none, all)
 
 module _ {N : Type 0} where
-  pub watcher_of : (sight : N → Sight) (w : ℕ) (row : List ℕ) (n : N) (g : Guarded N) (ss : List (Seat N)) (s : Seat N) → opening_of g ≡ n → seated_lanes g ≡ row ++ w ∷ []
-      → AreFresh (sight n) n (table_of g) (row ++ w ∷ []) (ss ++ s ∷ []) → (lanes_of g ≡ row) × AreFresh (sight n) n (table_of g) row ss × IsFreshWatcher sight w g s
+  pub watcher_of : (sight : N → Sight) (w : ℕ) (row : List ℕ) (n : N) (g : Guarded N) (ss : List (Seat N)) (s : Seat N) → opening_of g ≡ n
+      → seated_lanes g ≡ row ++ w ∷ []
+      → AreFresh (sight n) n (table_of g) (row ++ w ∷ []) (ss ++ s ∷ [])
+      → (lanes_of g ≡ row) × AreFresh (sight n) n (table_of g) row ss × IsFreshWatcher sight w g s
   watcher_of sight w row n g ss s o l k =
       let f = fresh_last (sight n) n (table_of g) row w ss s k in
       let lanes : lanes_of g ≡ row = ap but_last l ∙ but_last_more row w in

@@ -7,7 +7,8 @@ use Rattle.port_sets.specs.declared.locking.SharedShard.{SharedShard}
 use Rattle.lane_waves.specs.NodeRows.{AreDealt}
 use Rattle.lane_waves.specs.Ports.{AreSeated}
 
-pub all_seated : {S : Type 0} (sight : SharedShard S → Sight) (l : ℕ) (gs : List (Guarded (SharedShard S))) (ss : List (Seat (SharedShard S))) → AreDealt sight l gs ss → AreSeated gs ss
+pub all_seated : {S : Type 0} (sight : SharedShard S → Sight) (l : ℕ) (gs : List (Guarded (SharedShard S))) (ss : List (Seat (SharedShard S)))
+    → AreDealt sight l gs ss → AreSeated gs ss
 all_seated sight l [] [] k = tt
 all_seated sight l [] (s ∷ ss) k = absurd k
 all_seated sight l (g ∷ gs) [] k = absurd k

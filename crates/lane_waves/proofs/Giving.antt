@@ -1,5 +1,6 @@
 -- Seats given back one lane after another.
-use Rattle.std.proofs.Common.{◌≡◌, inl, inr, ℕ, suc, ◌+◌, ◌<◌, List, [], ◌∷◌, ◌++◌, length, reverse, append_assoc, append-nil, refl, sym, ap, ◌∙◌, subst, arith}
+use Rattle.std.proofs.Common.{◌≡◌, inl, inr, ℕ, suc, ◌+◌, ◌<◌, List, [], ◌∷◌, ◌++◌, length, reverse, append_assoc, append-nil, refl, sym, ap, ◌∙◌}
+use Rattle.std.proofs.Common.{subst, arith}
 use Rattle.std.specs.List.{AllZip}
 use Rattle.std.specs.Global.{Vec}
 use Rattle.std.proofs.lemmas.Grind.{common_steps}
@@ -18,7 +19,8 @@ use Rattle.lane_waves.proofs.Closing.{last_first}
 use Rattle.lane_waves.specs.Ports.{seats_of}
 use Rattle.lane_waves.specs.declared.runs.LaneRun.{LaneRun}
 use Rattle.lane_waves.specs.Deals.{EachHolds}
-use Rattle.lane_waves.specs.Gathers.{IsSeat, AreSeats, EachTakes, IsOver, AllOver, IsLaneEnd, IsRunBack, AreHome, AllGave, AllOf, RunsGathered, Chunks, shard_seats, home_seat}
+use Rattle.lane_waves.specs.Gathers.{IsSeat, AreSeats, EachTakes, IsOver, AllOver, IsLaneEnd, IsRunBack, AreHome, AllGave, AllOf, RunsGathered}
+use Rattle.lane_waves.specs.Gathers.{Chunks, shard_seats, home_seat}
 use Rattle.lane_waves.specs.declared.dealing.Table.{Table}
 
 module _ {T : Type 0} where
@@ -46,7 +48,10 @@ module _ {T : Type 0} where
   -- lists that all were dealt from take as many as they hold
   pub holds_take : (n : ℕ) (rs : List (Vec T)) → EachHolds n rs → EachNone rs → EachTakes n rs
   holds_take n [] h e = tt
-  holds_take n (r ∷ rs) h e = (let z : length r.items ≡ 0 = ap (λ (xs : List T). length xs) e.0 in let k = h.0 in omega (arith, z, k), holds_take n rs h.1 e.1)
+  holds_take n (r ∷ rs) h e = (
+    let z : length r.items ≡ 0 = ap (λ (xs : List T). length xs) e.0 in let k = h.0 in omega (arith, z, k),
+    holds_take n rs h.1 e.1,
+  )
 
 module _ {N : Type 0} where
   pub keeps_seat : (s : Seat N) (ts : List (Seat N)) (t : Seat N) → IsSeat s ts → IsSeat s (ts ++ t ∷ [])
@@ -68,7 +73,8 @@ module _ {N : Type 0} where
   keep_seats (s ∷ ss) [] (r ∷ rs) ts p k = absurd p
   keep_seats (s ∷ ss) (q ∷ qs) [] ts p k = absurd k
   keep_seats (s ∷ ss) (q ∷ qs) (r ∷ rs) [] p k = absurd p
-  keep_seats (s ∷ ss) (q ∷ qs) (r ∷ rs) (t ∷ ts) p k = (subst (λ xs. IsSeat s xs) (sym p.0.items) (keeps_seat s r.items t k.0), keep_seats ss qs rs ts p.1 k.1)
+  keep_seats (s ∷ ss) (q ∷ qs) (r ∷ rs) (t ∷ ts) p k =
+      (subst (λ xs. IsSeat s xs) (sym p.0.items) (keeps_seat s r.items t k.0), keep_seats ss qs rs ts p.1 k.1)
 
   new_seats : (qs rs : List (Vec (Seat N))) (ts : List (Seat N)) → PopsEach qs rs ts → AreSeats ts qs
   new_seats [] [] [] p = tt
@@ -102,32 +108,42 @@ module _ {W D S B X : Type 0} {G : Ghosts B} where
   over_last n [] r k = (tt, k.0)
   over_last n (x ∷ rs) r k = let m = over_last n rs r k.1 in ((k.0, m.0), m.1)
 
-  of_at : (locks : List (Guarded (SharedShard S))) (xs : List (LaneRun W D S B X G)) (r : LaneRun W D S B X G) (ys : List (LaneRun W D S B X G)) → AllOf locks (xs ++ r ∷ ys) → AreOf locks (shard_seats r)
+  of_at : (locks : List (Guarded (SharedShard S))) (xs : List (LaneRun W D S B X G)) (r : LaneRun W D S B X G) (ys : List (LaneRun W D S B X G))
+      → AllOf locks (xs ++ r ∷ ys) → AreOf locks (shard_seats r)
   of_at locks [] r ys k = k.0
   of_at locks (x ∷ xs) r ys k = of_at locks xs r ys k.1
 
-  keep_gave : (gone : List (LaneRun W D S B X G)) (qs rs : List (Vec (Seat (SharedShard S)))) (ts : List (Seat (SharedShard S))) → PopsEach qs rs ts → AllGave gone rs → AllGave gone qs
+  keep_gave : (gone : List (LaneRun W D S B X G)) (qs rs : List (Vec (Seat (SharedShard S)))) (ts : List (Seat (SharedShard S))) → PopsEach qs rs ts
+      → AllGave gone rs → AllGave gone qs
   keep_gave [] qs rs ts p k = tt
   keep_gave (r ∷ gone) qs rs ts p k = (keep_seats (shard_seats r) qs rs ts p k.0, keep_gave gone qs rs ts p k.1)
 
   -- a lane more is back
-  pub gathered_more : (locks : List (Guarded (SharedShard S))) (all : List (LaneRun W D S B X G)) (t : Table W D S B X G) (home : Seat (SharedLog D)) (u : Table W D S B X G) → IsRunBack t home u → RunsGathered locks all t → RunsGathered locks all u
+  pub gathered_more : (locks : List (Guarded (SharedShard S))) (all : List (LaneRun W D S B X G)) (t : Table W D S B X G) (home : Seat (SharedLog D))
+      (u : Table W D S B X G) → IsRunBack t home u → RunsGathered locks all t → RunsGathered locks all u
   gathered_more locks all t home u b k =
       let are : all ≡ u.runs.items ++ b.run ∷ k.gone = k.all_are ∙ (ap (λ xs. xs ++ k.gone) b.runs ∙ append_assoc u.runs.items (b.run ∷ []) k.gone) in
       let one : length k.gone + 1 ≡ length (b.run ∷ k.gone) = omega arith in record {
         gone = b.run ∷ k.gone;
         all_are = are;
         of = k.of;
-        back = subst (λ n. AreSeatsBack n locks u.rows.items) one (gathers (length k.gone) locks t.rows.items u.rows.items (shard_seats b.run) k.back b.rows (of_at locks u.runs.items b.run k.gone (subst (AllOf locks) are k.of)));
-        gave = (new_seats u.rows.items t.rows.items (shard_seats b.run) b.rows, keep_gave k.gone u.rows.items t.rows.items (shard_seats b.run) b.rows k.gave);
-        lanes = subst (λ xs. AllZip (λ r x. IsLaneEnd r.work r.came x) (b.run ∷ k.gone) xs) (sym (last_first t.lanes.items u.lanes.items b.lane b.lanes)) (b.came, k.lanes);
+        back = subst (λ n. AreSeatsBack n locks u.rows.items) one
+            (gathers (length k.gone) locks t.rows.items u.rows.items (shard_seats b.run) k.back b.rows
+            (of_at locks u.runs.items b.run k.gone (subst (AllOf locks) are k.of)));
+        gave = (
+          new_seats u.rows.items t.rows.items (shard_seats b.run) b.rows,
+          keep_gave k.gone u.rows.items t.rows.items (shard_seats b.run) b.rows k.gave,
+        );
+        lanes = subst (λ xs. AllZip (λ r x. IsLaneEnd r.work r.came x) (b.run ∷ k.gone) xs)
+            (sym (last_first t.lanes.items u.lanes.items b.lane b.lanes)) (b.came, k.lanes);
       }
 
   -- and its seat of its coordinator
   pub home_none : (t : Table W D S B X G) (own : List (Seat (SharedLog D))) → own ≡ [] → AreHome 0 t own t
   home_none t own e = record { gone = []; runs = sym (append-nil t.runs.items); many = refl; seats = ap reverse e }
 
-  pub home_more : (n : ℕ) (t : Table W D S B X G) (own own' : List (Seat (SharedLog D))) (u v : Table W D S B X G) (home : Seat (SharedLog D)) → AreHome n t own u → IsRunBack u home v → own' ≡ own ++ home ∷ [] → AreHome (n + 1) t own' v
+  pub home_more : (n : ℕ) (t : Table W D S B X G) (own own' : List (Seat (SharedLog D))) (u v : Table W D S B X G) (home : Seat (SharedLog D))
+      → AreHome n t own u → IsRunBack u home v → own' ≡ own ++ home ∷ [] → AreHome (n + 1) t own' v
   home_more n t own own' u v home k b e = record {
     gone = b.run ∷ k.gone;
     runs = k.runs ∙ (ap (λ xs. xs ++ k.gone) b.runs ∙ append_assoc v.runs.items (b.run ∷ []) k.gone);
@@ -142,14 +158,21 @@ module _ {W D S B X : Type 0} {G : Ghosts B} where
     pub chunks : Chunks n (reverse homes) gone
 
   pub homes_none : (n : ℕ) (t : Table W D S B X G) (homes : List (Vec (Seat (SharedLog D)))) → homes ≡ [] → HomesGone n t homes t
-  homes_none n t homes e = record { gone = []; runs = sym (append-nil t.runs.items); chunks = let z : Chunks {W = W} {D = D} {S = S} {B = B} {X = X} {G = G} n [] [] = refl in subst (λ xs. Chunks {W = W} {D = D} {S = S} {B = B} {X = X} {G = G} n (reverse xs) []) (sym e) z }
+  homes_none n t homes e = record {
+    gone = [];
+    runs = sym (append-nil t.runs.items);
+    chunks = let z : Chunks {W = W} {D = D} {S = S} {B = B} {X = X} {G = G} n [] [] = refl in
+        subst (λ xs. Chunks {W = W} {D = D} {S = S} {B = B} {X = X} {G = G} n (reverse xs) []) (sym e) z;
+  }
 
-  pub homes_more : (n : ℕ) (t : Table W D S B X G) (homes homes' : List (Vec (Seat (SharedLog D)))) (own : Vec (Seat (SharedLog D))) (u v : Table W D S B X G) → HomesGone n t homes u → AreHome n u own.items v → homes' ≡ homes ++ own ∷ [] → HomesGone n t homes' v
+  pub homes_more : (n : ℕ) (t : Table W D S B X G) (homes homes' : List (Vec (Seat (SharedLog D)))) (own : Vec (Seat (SharedLog D)))
+      (u v : Table W D S B X G) → HomesGone n t homes u → AreHome n u own.items v → homes' ≡ homes ++ own ∷ [] → HomesGone n t homes' v
   homes_more n t homes homes' own u v k h e = record {
     gone = h.gone ++ k.gone;
     runs = k.runs ∙ (ap (λ xs. xs ++ k.gone) h.runs ∙ append_assoc v.runs.items h.gone k.gone);
     chunks = subst (λ xs. Chunks n xs (h.gone ++ k.gone)) (sym (last_first homes homes' own e)) (h.gone, k.gone, refl, h.many, h.seats, k.chunks);
   }
 
-  pub homes_all : (n : ℕ) (t : Table W D S B X G) (homes : List (Vec (Seat (SharedLog D)))) (u : Table W D S B X G) → HomesGone n t homes u → u.runs.items ≡ [] → Chunks n (reverse homes) t.runs.items
+  pub homes_all : (n : ℕ) (t : Table W D S B X G) (homes : List (Vec (Seat (SharedLog D)))) (u : Table W D S B X G) → HomesGone n t homes u
+      → u.runs.items ≡ [] → Chunks n (reverse homes) t.runs.items
   homes_all n t homes u k e = subst (Chunks n (reverse homes)) (sym (k.runs ∙ ap (λ xs. xs ++ k.gone) e)) k.chunks

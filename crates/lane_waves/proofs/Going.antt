@@ -15,8 +15,10 @@ use Rattle.port_sets.specs.Seated.{seat_sight, seat_phase}
 use Rattle.lane_waves.specs.declared.runs.LaneRun.{LaneRun}
 use Rattle.lane_waves.specs.Held.{sights_of, HasRun}
 
-module _ {W D S B X : Type 0} {G : Ghosts B} (sight : S → Sight) (tables : ℕ → TableId) (K : Shape) (r q : LaneRun W D S B X G) (xs : List Compact) (e : xs ≡ r.work.txs) (repeats : ℕ) (m : repeats ≡ r.work.repeats) where
-  pub has_run : (came : Result LaneReport LaneFault) → LaneResult K false r.lane xs repeats came (sights_of sight tables K r) (sights_of sight tables K q)
+module _ {W D S B X : Type 0} {G : Ghosts B} (sight : S → Sight) (tables : ℕ → TableId) (K : Shape) (r q : LaneRun W D S B X G) (xs : List Compact)
+    (e : xs ≡ r.work.txs) (repeats : ℕ) (m : repeats ≡ r.work.repeats) where
+  pub has_run : (came : Result LaneReport LaneFault)
+      → LaneResult K false r.lane xs repeats came (sights_of sight tables K r) (sights_of sight tables K q)
       → OnOk came (seat_phase (knows q.ports.log.seat).lane (seat_sight (log_sight {D = D}) q.ports.log.seat) r.lane ≡ Idle)
       → IfOk came (λ o. IsReported r.lane K.batch xs [] o.batches) → HasRun sight tables K r q (Some came)
   has_run came o i n = record {

@@ -1,5 +1,6 @@
 -- Lanes made ready, and with their results.
-use Rattle.std.proofs.Common.{◌≡◌, ℕ, zero, suc, ◌+◌, ◌<◌, List, [], ◌∷◌, ◌++◌, map, length, reverse, drop, get_or, set, min, ◌-◌, refl, sym, ap, ◌∙◌, arith}
+use Rattle.std.proofs.Common.{◌≡◌, ℕ, zero, suc, ◌+◌, ◌<◌, List, [], ◌∷◌, ◌++◌, map, length, reverse, drop, get_or, set, min, ◌-◌, refl, sym, ap, ◌∙◌}
+use Rattle.std.proofs.Common.{arith}
 use Rattle.std.proofs.lemmas.List.{length-take, length-drop, drop_more}
 use Rattle.cbdc_model.specs.Records.{Compact, Batch, Outcome}
 use Rattle.lane_driver.specs.Reports.{CutFrom, AreBatchReports, IsReported}
@@ -30,7 +31,8 @@ summed_more (q ∷ ps) p = let e = summed_more ps p in omega (arith, e)
 
 summed_turned : (ps : List (List Compact)) → summed (reverse ps) ≡ summed ps
 summed_turned [] = refl
-summed_turned (p ∷ ps) = let a : summed (reverse (p ∷ ps)) ≡ summed (reverse ps ++ p ∷ []) = ap summed (first_last p ps) in let b = summed_more (reverse ps) p in let c = summed_turned ps in omega (arith, a, b, c)
+summed_turned (p ∷ ps) = let a : summed (reverse (p ∷ ps)) ≡ summed (reverse ps ++ p ∷ []) = ap summed (first_last p ps) in let b =
+    summed_more (reverse ps) p in let c = summed_turned ps in omega (arith, a, b, c)
 
 cut_sum : (n : ℕ) (txs : List Compact) (ps : List (List Compact)) (rest : List Compact) → CutFrom n txs ps rest → summed ps + length rest ≡ length txs
 cut_sum n txs [] rest e = let z : length rest ≡ length txs = ap (λ (xs : List Compact). length xs) e in omega (arith, z)
@@ -53,15 +55,20 @@ told_sum lane (r ∷ rs) (p ∷ ps) k =
     omega (arith, one, rest, same, both)
 
 -- an outcome for each transaction
-pub reported_many : (lane n : ℕ) (txs : List Compact) (reports : List BatchReport) → IsReported lane n txs [] reports → length (told_in reports) ≡ length txs
+pub reported_many : (lane n : ℕ) (txs : List Compact) (reports : List BatchReport) → IsReported lane n txs [] reports
+    → length (told_in reports) ≡ length txs
 reported_many lane n txs reports (pieces, cut, are) =
     let a = told_sum lane reports (reverse pieces) are in
     let b = summed_turned pieces in
     let c = cut_sum n txs pieces [] cut in
     omega (arith, a, b, c)
 
-pub told_drop : (reports : List BatchReport) (i : ℕ) (x : BatchReport) → i < length reports → x ≡ get_or reports i x → told_in (drop i reports) ≡ decided_in x.batch x.outcomes ++ told_in (drop (i + 1) reports)
-told_drop reports i x lt e = ap told_in (drop_more reports i x lt) ∙ ap (λ (r : BatchReport). decided_in r.batch r.outcomes ++ told_in (drop (i + 1) reports)) (sym e)
+pub told_drop : (reports : List BatchReport) (i : ℕ) (x : BatchReport) → i < length reports → x ≡ get_or reports i x
+    → told_in (drop i reports) ≡ decided_in x.batch x.outcomes ++ told_in (drop (i + 1) reports)
+told_drop reports i x lt e = ap told_in (drop_more reports i x lt)
+    ∙ ap (λ (r : BatchReport). decided_in r.batch r.outcomes ++ told_in (drop (i + 1) reports)) (sym e)
 
-pub told_many : (x : BatchReport) (rest : List BatchReport) → length (decided_in x.batch x.outcomes ++ told_in rest) ≡ length x.outcomes + length (told_in rest)
-told_many x rest = let a = append_many (decided_in x.batch x.outcomes) (told_in rest) in let b = decided_many x.batch x.outcomes in omega (arith, a, b)
+pub told_many : (x : BatchReport) (rest : List BatchReport)
+    → length (decided_in x.batch x.outcomes ++ told_in rest) ≡ length x.outcomes + length (told_in rest)
+told_many x rest = let a = append_many (decided_in x.batch x.outcomes) (told_in rest) in let b = decided_many x.batch x.outcomes in
+    omega (arith, a, b)

@@ -53,10 +53,12 @@ module _ {N : Type 0} (sight : N → Sight) where
       (omega (arith, some, e), left_some ls gs rs some k.1)
 
 -- the last seat that is left of a coordinator is that of its last lane that is left
-pub home_last : {D : Type 0} (K : Shape) (home : ℕ) (gs : List (Guarded (SharedLog D))) (own rest : List (Seat (SharedLog D))) (seat : Seat (SharedLog D)) → IsHomeLeft K home gs own → own ≡ rest ++ seat ∷ []
+pub home_last : {D : Type 0} (K : Shape) (home : ℕ) (gs : List (Guarded (SharedLog D))) (own rest : List (Seat (SharedLog D)))
+    (seat : Seat (SharedLog D)) → IsHomeLeft K home gs own → own ≡ rest ++ seat ∷ []
     → (g : Guarded (SharedLog D)) → slice_get gs home ≡ Some g
     → AreFresh (log_sight (opening_of g)) (opening_of g) (table_of g) (lanes_from (home * K.lanes) (length rest)) rest
-    × ((seat.token.table_id ≡ table_of g) × (first_of seat ≡ Some (opening_of g)) × (knows seat ≡ fresh (log_sight (opening_of g)) (home * K.lanes + length rest)))
+    × ((seat.token.table_id ≡ table_of g) × (first_of seat ≡ Some (opening_of g))
+    × (knows seat ≡ fresh (log_sight (opening_of g)) (home * K.lanes + length rest)))
 home_last K home gs own rest seat k e g there =
     let many = snoc_many own rest seat e in
     let one : length own ≡ suc (length rest) = omega (arith, many) in
@@ -66,7 +68,8 @@ home_last K home gs own rest seat k e g there =
     (subst (λ xs. AreFresh (log_sight (opening_of g)) (opening_of g) (table_of g) (lanes_from first (length own)) xs) e (k g there)))
 
 -- lists of all seats hold as many as there are lanes
-pub left_holds : {N : Type 0} (sight : N → Sight) (ls : List ℕ) (gs : List (Guarded N)) (rs : List (Vec (Seat N))) → AreLeft sight ls gs rs → EachHolds (length ls) rs
+pub left_holds : {N : Type 0} (sight : N → Sight) (ls : List ℕ) (gs : List (Guarded N)) (rs : List (Vec (Seat N))) → AreLeft sight ls gs rs
+    → EachHolds (length ls) rs
 left_holds sight ls [] [] k = tt
 left_holds sight ls [] (r ∷ rs) k = absurd k
 left_holds sight ls (g ∷ gs) [] k = absurd k
@@ -75,6 +78,7 @@ left_holds sight ls (g ∷ gs) (r ∷ rs) k =
     let a = r.ok.0 in let b = r.ok.1 in
     (omega (arith, e, a, b), left_holds sight ls gs rs k.1)
 
-pub have_lanes : {N : Type 0} (k : ℕ) (ls : List ℕ) (n : ℕ) (gs : List (Guarded N)) → length ls ≡ n → AllFrom (λ i g. lanes_of g ≡ ls) k gs → HaveLanes n gs
+pub have_lanes : {N : Type 0} (k : ℕ) (ls : List ℕ) (n : ℕ) (gs : List (Guarded N)) → length ls ≡ n → AllFrom (λ i g. lanes_of g ≡ ls) k gs
+    → HaveLanes n gs
 have_lanes k ls n [] e a = tt
 have_lanes k ls n (g ∷ gs) e a = (ap (λ (xs : List ℕ). length xs) a.0 ∙ e, have_lanes (suc k) ls n gs e a.1)

@@ -15,10 +15,12 @@ use Rattle.lane_waves.specs.NodeRows.{IsLocked, AreLocked, IsClosed, AreClosed, 
 use Rattle.lane_waves.specs.Laws.{NodesRanLaw, NodesStillLaw, WentOn, HeldLaw}
 
 module _ {N : Type 0} (sight : N → Sight) (goes : N → N → Type 0) where
-  one_ran : (n m : N) (r : Vec ℕ) (g : Guarded N) (s t : Vec (Seat N)) → IsLocked sight n r.items g s → IsClosed sight goes g t m → NodeRan (sight n) r.items (all_known t.items) (sight m)
+  one_ran : (n m : N) (r : Vec ℕ) (g : Guarded N) (s t : Vec (Seat N)) → IsLocked sight n r.items g s → IsClosed sight goes g t m
+      → NodeRan (sight n) r.items (all_known t.items) (sight m)
   one_ran n m r g s t k c = record {
     apart = k.row.apart;
-    done = subst (λ ls. Done (sight n) ls (all_known t.items) (sight m)) k.lanes_are (subst (λ o. Done (sight o) (lanes_of g) (all_known t.items) (sight m)) k.node c.done);
+    done = subst (λ ls. Done (sight n) ls (all_known t.items) (sight m)) k.lanes_are
+        (subst (λ o. Done (sight o) (lanes_of g) (all_known t.items) (sight m)) k.node c.done);
     same = subst (λ o. Same (sight o) (sight m)) k.node c.lives.1;
   }
 

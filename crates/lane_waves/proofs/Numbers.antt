@@ -73,12 +73,14 @@ is_row first n some few = record {
   apart = λ x. once x first n;
 }
 
-pub are_rows : (at : ℕ → ℕ) (n k : ℕ) (rows : List (Vec ℕ)) → 0 < n → n < 4294967296 → AllFrom (λ j r. r.items ≡ lanes_from (at j) n) k rows → AreRows rows
+pub are_rows : (at : ℕ → ℕ) (n k : ℕ) (rows : List (Vec ℕ)) → 0 < n → n < 4294967296 → AllFrom (λ j r. r.items ≡ lanes_from (at j) n) k rows
+    → AreRows rows
 are_rows at n k [] some few a = tt
 are_rows at n k (r ∷ rows) some few a = (subst IsRow (sym a.0) (is_row (at k) n some few), are_rows at n (suc k) rows some few a.1)
 
 -- an auditor's lane is beyond all of them
-pub are_watched_rows : (w : ℕ) (at : ℕ → ℕ) (n k : ℕ) (rows : List (Vec ℕ)) → 0 < n → n + 1 < 4294967296 → ((j : ℕ) → j < k + length rows → at j + n ≤ w)
+pub are_watched_rows : (w : ℕ) (at : ℕ → ℕ) (n k : ℕ) (rows : List (Vec ℕ)) → 0 < n → n + 1 < 4294967296
+    → ((j : ℕ) → j < k + length rows → at j + n ≤ w)
     → AllFrom (λ j r. r.items ≡ lanes_from (at j) n) k rows → AreWatchedRows w rows
 are_watched_rows w at n k [] some few far a = tt
 are_watched_rows w at n k (r ∷ rows) some few far a = (

@@ -7,11 +7,14 @@ use Rattle.node_lock.specs.declared.lock.Guarded.{Guarded}
 use Rattle.node_lock.specs.declared.seat.Seat.{Seat}
 use Rattle.node_lock.specs.Seats.{TableId, AreFresh, AllAt, knows, first_of, table_of, opening_of}
 use Rattle.node_lock.specs.Tickets.{fresh}
-use Rattle.lane_waves.specs.NodeRows.{IsRow, IsLocked, AreLocked, HasAllSeats, HaveAllSeats, IsFreshSeat, AreLeft, AreDealt, AreSeatsBack, AreOf, lanes_of}
+use Rattle.lane_waves.specs.NodeRows.{IsRow, IsLocked, AreLocked, HasAllSeats, HaveAllSeats, IsFreshSeat, AreLeft, AreDealt, AreSeatsBack, AreOf}
+use Rattle.lane_waves.specs.NodeRows.{lanes_of}
 use Rattle.lane_waves.specs.Dealing.{Pops, PopsEach}
 
 module _ {N : Type 0} where
-  pub fresh_last : (first : Sight) (n : N) (id : TableId) (ls : List ℕ) (l : ℕ) (ss : List (Seat N)) (s : Seat N) → AreFresh first n id (ls ++ l ∷ []) (ss ++ s ∷ []) → AreFresh first n id ls ss × ((s.token.table_id ≡ id) × (first_of s ≡ Some n) × (knows s ≡ fresh first l))
+  pub fresh_last : (first : Sight) (n : N) (id : TableId) (ls : List ℕ) (l : ℕ) (ss : List (Seat N)) (s : Seat N)
+      → AreFresh first n id (ls ++ l ∷ []) (ss ++ s ∷ [])
+      → AreFresh first n id ls ss × ((s.token.table_id ≡ id) × (first_of s ≡ Some n) × (knows s ≡ fresh first l))
   fresh_last first n id [] l [] s k = (tt, k.0)
   fresh_last first n id [] l (y ∷ []) s k = absurd k.1
   fresh_last first n id [] l (y ∷ (z ∷ ss)) s k = absurd k.1
@@ -28,7 +31,8 @@ module _ {N : Type 0} where
 
   module _ (sight : N → Sight) where
     -- a round of dealing gives a lane's fresh seat of each lock
-    pub deals : (ls : List ℕ) (l : ℕ) (gs : List (Guarded N)) (rs qs : List (Vec (Seat N))) (ts : List (Seat N)) → AreLeft sight (ls ++ l ∷ []) gs rs → PopsEach rs qs ts → AreLeft sight ls gs qs × AreDealt sight l gs ts
+    pub deals : (ls : List ℕ) (l : ℕ) (gs : List (Guarded N)) (rs qs : List (Vec (Seat N))) (ts : List (Seat N)) → AreLeft sight (ls ++ l ∷ []) gs rs
+        → PopsEach rs qs ts → AreLeft sight ls gs qs × AreDealt sight l gs ts
     deals ls l [] [] [] [] k p = (tt, tt)
     deals ls l [] [] [] (t ∷ ts) k p = absurd p
     deals ls l [] [] (q ∷ qs) ts k p = absurd p
@@ -37,7 +41,8 @@ module _ {N : Type 0} where
     deals ls l (g ∷ gs) (r ∷ rs) [] ts k p = absurd p
     deals ls l (g ∷ gs) (r ∷ rs) (q ∷ qs) [] k p = absurd p
     deals ls l (g ∷ gs) (r ∷ rs) (q ∷ qs) (t ∷ ts) k p =
-        let f = fresh_last (sight (opening_of g)) (opening_of g) (table_of g) ls l q.items t (subst (λ xs. AreFresh (sight (opening_of g)) (opening_of g) (table_of g) (ls ++ l ∷ []) xs) p.0.items k.0) in
+        let f = fresh_last (sight (opening_of g)) (opening_of g) (table_of g) ls l q.items t
+        (subst (λ xs. AreFresh (sight (opening_of g)) (opening_of g) (table_of g) (ls ++ l ∷ []) xs) p.0.items k.0) in
         let m = deals ls l gs rs qs ts k.1 p.1 in
         ((f.0, m.0), (f.1, m.1))
 
@@ -46,7 +51,8 @@ module _ {N : Type 0} where
     AllAre lanes [] = Unit {0}
     AllAre lanes (r ∷ rs) = (r.items ≡ lanes) × AllAre lanes rs
 
-    pub all_left : (lanes : List ℕ) (ns : List N) (rs : List (Vec ℕ)) (gs : List (Guarded N)) (ss : List (Vec (Seat N))) → AllAre lanes rs → AreLocked sight ns rs gs ss → AreLeft sight lanes gs ss
+    pub all_left : (lanes : List ℕ) (ns : List N) (rs : List (Vec ℕ)) (gs : List (Guarded N)) (ss : List (Vec (Seat N))) → AllAre lanes rs
+        → AreLocked sight ns rs gs ss → AreLeft sight lanes gs ss
     all_left lanes [] [] [] [] a k = tt
     all_left lanes [] [] [] (s ∷ ss) a k = absurd k
     all_left lanes [] [] (g ∷ gs) ss a k = absurd k
@@ -54,11 +60,15 @@ module _ {N : Type 0} where
     all_left lanes (n ∷ ns) [] gs ss a k = absurd k
     all_left lanes (n ∷ ns) (r ∷ rs) [] ss a k = absurd k
     all_left lanes (n ∷ ns) (r ∷ rs) (g ∷ gs) [] a k = absurd k
-    all_left lanes (n ∷ ns) (r ∷ rs) (g ∷ gs) (s ∷ ss) a k =
-        (subst (λ xs. AreFresh (sight (opening_of g)) (opening_of g) (table_of g) xs s.items) a.0 (subst (λ o. AreFresh (sight o) o (table_of g) r.items s.items) (sym k.0.node) k.0.seats), all_left lanes ns rs gs ss a.1 k.1)
+    all_left lanes (n ∷ ns) (r ∷ rs) (g ∷ gs) (s ∷ ss) a k = (
+      subst (λ xs. AreFresh (sight (opening_of g)) (opening_of g) (table_of g) xs s.items) a.0
+          (subst (λ o. AreFresh (sight o) o (table_of g) r.items s.items) (sym k.0.node) k.0.seats),
+      all_left lanes ns rs gs ss a.1 k.1,
+    )
 
   -- a round of gathering brings one seat of each lock back
-  pub gathers : (n : ℕ) (gs : List (Guarded N)) (rs qs : List (Vec (Seat N))) (ts : List (Seat N)) → AreSeatsBack n gs rs → PopsEach qs rs ts → AreOf gs ts → AreSeatsBack (n + 1) gs qs
+  pub gathers : (n : ℕ) (gs : List (Guarded N)) (rs qs : List (Vec (Seat N))) (ts : List (Seat N)) → AreSeatsBack n gs rs → PopsEach qs rs ts
+      → AreOf gs ts → AreSeatsBack (n + 1) gs qs
   gathers n [] [] [] [] k p o = tt
   gathers n [] [] [] (t ∷ ts) k p o = absurd p
   gathers n [] [] (q ∷ qs) ts k p o = absurd p
@@ -66,8 +76,11 @@ module _ {N : Type 0} where
   gathers n (g ∷ gs) [] qs ts k p o = absurd k
   gathers n (g ∷ gs) (r ∷ rs) [] ts k p o = absurd p
   gathers n (g ∷ gs) (r ∷ rs) (q ∷ qs) [] k p o = absurd p
-  gathers n (g ∷ gs) (r ∷ rs) (q ∷ qs) (t ∷ ts) k p o =
-      (subst (λ xs. AllAt (table_of g) xs × (length xs ≡ n + 1)) (sym p.0.items) (at_more (table_of g) r.items t k.0.0 o.0, length_more r.items t n k.0.1), gathers n gs rs qs ts k.1 p.1 o.1)
+  gathers n (g ∷ gs) (r ∷ rs) (q ∷ qs) (t ∷ ts) k p o = (
+    subst (λ xs. AllAt (table_of g) xs × (length xs ≡ n + 1)) (sym p.0.items)
+        (at_more (table_of g) r.items t k.0.0 o.0, length_more r.items t n k.0.1),
+    gathers n gs rs qs ts k.1 p.1 o.1,
+  )
 
   -- when all are back the locks can be closed
   abbrev pub HaveLanes : ℕ → List (Guarded N) → Type 0
@@ -78,4 +91,7 @@ module _ {N : Type 0} where
   all_back n [] [] some h k = tt
   all_back n [] (r ∷ rs) some h k = absurd k
   all_back n (g ∷ gs) [] some h k = absurd k
-  all_back n (g ∷ gs) (r ∷ rs) some h k = (record { ready = (k.0.0, k.0.1 ∙ sym h.0, subst (λ m. 0 < m) (sym k.0.1) some) }, all_back n gs rs some h.1 k.1)
+  all_back n (g ∷ gs) (r ∷ rs) some h k = (
+    record { ready = (k.0.0, k.0.1 ∙ sym h.0, subst (λ m. 0 < m) (sym k.0.1) some) },
+    all_back n gs rs some h.1 k.1,
+  )

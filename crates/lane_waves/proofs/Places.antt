@@ -1,5 +1,6 @@
 -- Lists by the numbers of their places.
-use Rattle.std.proofs.Common.{◌≡◌, ℕ, zero, suc, ◌+◌, ◌*◌, ◌<◌, ◌≤◌, List, [], ◌∷◌, ◌++◌, length, reverse, take, drop, Some, None, refl, sym, ap, ◌∙◌, subst, arith}
+use Rattle.std.proofs.Common.{◌≡◌, ℕ, zero, suc, ◌+◌, ◌*◌, ◌<◌, ◌≤◌, List, [], ◌∷◌, ◌++◌, length, reverse, take, drop, Some, None, refl, sym, ap, ◌∙◌}
+use Rattle.std.proofs.Common.{subst, arith}
 use Rattle.std.specs.Prelude.{All, slice_get, vec_len}
 use Rattle.std.specs.Global.{Vec}
 use Rattle.std.proofs.lemmas.Grind.{common_steps}
@@ -28,17 +29,21 @@ module _ {A : Type 0} (P : ℕ → A → Type 0) where
 
   pub all_at : (k : ℕ) (xs : List A) (n : ℕ) (x : A) → AllFrom P k xs → slice_get xs n ≡ Some x → P (k + n) x
   all_at k [] n x a e = absurd (let z : None ≡ Some x = e in cc)
-  all_at k (y ∷ xs) zero x a e = let same : y ≡ x = let z : Some y ≡ Some x = e in cc in let none : k ≡ k + 0 = omega arith in subst (λ z. P (k + 0) z) same (subst (λ n. P n y) none a.0)
+  all_at k (y ∷ xs) zero x a e = let same : y ≡ x = let z : Some y ≡ Some x = e in cc in let none : k ≡ k + 0 = omega arith in
+      subst (λ z. P (k + 0) z) same (subst (λ n. P n y) none a.0)
   all_at k (y ∷ xs) (suc n) x a e = let more : suc k + n ≡ k + suc n = omega arith in subst (λ m. P m x) more (all_at (suc k) xs n x a.1 e)
 
   pub all_from : (k : ℕ) (xs : List A) → ((i : ℕ) (x : A) → slice_get xs i ≡ Some x → P (k + i) x) → AllFrom P k xs
   all_from k [] f = tt
   all_from k (x ∷ xs) f =
-      let none : k + 0 ≡ k = omega arith in
-      (subst (λ n. P n x) none (f 0 x refl), all_from (suc k) xs (λ i y e. let more : k + suc i ≡ suc k + i = omega arith in subst (λ n. P n y) more (f (suc i) y e)))
+      let none : k + 0 ≡ k = omega arith in (
+        subst (λ n. P n x) none (f 0 x refl),
+        all_from (suc k) xs (λ i y e. let more : k + suc i ≡ suc k + i = omega arith in subst (λ n. P n y) more (f (suc i) y e)),
+      )
 
 module _ {A B : Type 0} (P : ℕ → A → B → Type 0) where
-  pub both_at : (k : ℕ) (xs : List A) (ys : List B) (n : ℕ) (x : A) (y : B) → BothFrom P k xs ys → slice_get xs n ≡ Some x → slice_get ys n ≡ Some y → P (k + n) x y
+  pub both_at : (k : ℕ) (xs : List A) (ys : List B) (n : ℕ) (x : A) (y : B) → BothFrom P k xs ys → slice_get xs n ≡ Some x → slice_get ys n ≡ Some y
+      → P (k + n) x y
   both_at k [] [] n x y a e f = absurd (let z : None ≡ Some x = e in cc)
   both_at k [] (w ∷ ys) n x y a e f = absurd a
   both_at k (v ∷ xs) [] n x y a e f = absurd a
@@ -47,15 +52,18 @@ module _ {A B : Type 0} (P : ℕ → A → B → Type 0) where
       let like : w ≡ y = let z : Some w ≡ Some y = f in cc in
       let none : k ≡ k + 0 = omega arith in
       subst (λ z. P (k + 0) z y) same (subst (λ z. P (k + 0) v z) like (subst (λ n. P n v w) none a.0))
-  both_at k (v ∷ xs) (w ∷ ys) (suc n) x y a e f = let more : suc k + n ≡ k + suc n = omega arith in subst (λ m. P m x y) more (both_at (suc k) xs ys n x y a.1 e f)
+  both_at k (v ∷ xs) (w ∷ ys) (suc n) x y a e f = let more : suc k + n ≡ k + suc n = omega arith in
+      subst (λ m. P m x y) more (both_at (suc k) xs ys n x y a.1 e f)
 
-  pub both_more : (k : ℕ) (xs : List A) (ys : List B) (x : A) (y : B) → BothFrom P k xs ys → P (k + length ys) x y → BothFrom P k (xs ++ x ∷ []) (ys ++ y ∷ [])
+  pub both_more : (k : ℕ) (xs : List A) (ys : List B) (x : A) (y : B) → BothFrom P k xs ys → P (k + length ys) x y
+      → BothFrom P k (xs ++ x ∷ []) (ys ++ y ∷ [])
   both_more k [] [] x y a p = (subst (λ n. P n x y) (none_more k) p, tt)
   both_more k [] (w ∷ ys) x y a p = absurd a
   both_more k (v ∷ xs) [] x y a p = absurd a
   both_more k (v ∷ xs) (w ∷ ys) x y a p = (a.0, both_more (suc k) xs ys x y a.1 (subst (λ n. P n x y) (one_more k w ys) p))
 
-  pub both_last : (k : ℕ) (xs : List A) (ys : List B) (x : A) (y : B) → BothFrom P k (xs ++ x ∷ []) (ys ++ y ∷ []) → BothFrom P k xs ys × P (k + length ys) x y
+  pub both_last : (k : ℕ) (xs : List A) (ys : List B) (x : A) (y : B) → BothFrom P k (xs ++ x ∷ []) (ys ++ y ∷ [])
+      → BothFrom P k xs ys × P (k + length ys) x y
   both_last k [] [] x y a = (tt, subst (λ n. P n x y) (sym (none_more k)) a.0)
   both_last k [] (w ∷ []) x y a = absurd a.1
   both_last k [] (w ∷ (z ∷ ys)) x y a = absurd a.1
@@ -88,7 +96,9 @@ module _ {A B : Type 0} (P : ℕ → A → B → Type 0) where
       no_right [] x a = a
       no_right (z ∷ zs) x a = a
   down (x ∷ xs) (y ∷ ys) a =
-      let m = both_last 0 (reverse xs) (reverse ys) x y (subst (λ zs. BothFrom P 0 zs (reverse ys ++ y ∷ [])) (first_last x xs) (subst (λ zs. BothFrom P 0 (reverse (x ∷ xs)) zs) (first_last y ys) a)) in
+      let m = both_last 0 (reverse xs) (reverse ys) x y
+      (subst (λ zs. BothFrom P 0 zs (reverse ys ++ y ∷ [])) (first_last x xs)
+      (subst (λ zs. BothFrom P 0 (reverse (x ∷ xs)) zs) (first_last y ys) a)) in
       (subst (λ n. P n x y) (turned_many ys) m.1, down xs ys m.0)
 
   pub up : (xs : List A) (ys : List B) → Down xs ys → BothFrom P 0 (reverse xs) (reverse ys)
@@ -96,7 +106,8 @@ module _ {A B : Type 0} (P : ℕ → A → B → Type 0) where
   up [] (y ∷ ys) d = absurd d
   up (x ∷ xs) [] d = absurd d
   up (x ∷ xs) (y ∷ ys) d =
-      subst (λ zs. BothFrom P 0 zs (reverse (y ∷ ys))) (sym (first_last x xs)) (subst (λ zs. BothFrom P 0 (reverse xs ++ x ∷ []) zs) (sym (first_last y ys))
+      subst (λ zs. BothFrom P 0 zs (reverse (y ∷ ys))) (sym (first_last x xs))
+      (subst (λ zs. BothFrom P 0 (reverse xs ++ x ∷ []) zs) (sym (first_last y ys))
       (both_more 0 (reverse xs) (reverse ys) x y (up xs ys d.1) (subst (λ n. P n x y) (sym (turned_many ys)) d.0)))
 
 pub snoc_many : {A : Type 0} (xs ys : List A) (x : A) → xs ≡ ys ++ x ∷ [] → length xs ≡ length ys + 1
@@ -174,5 +185,6 @@ pub all_anew : {A : Type 0} (n : ℕ) (xs ys : List A) → length xs ≡ length 
 all_anew n xs ys e k = take_at xs (drop (length xs) ys) n (e ∙ sym k)
 
 -- pair by pair
-pub each_pair : {A B : Type 0} (P : ℕ → A → B → Type 0) (xs : List A) (ys : List B) → BothFrom P 0 xs ys → (n : ℕ) (x : A) (y : B) → slice_get xs n ≡ Some x → slice_get ys n ≡ Some y → P n x y
+pub each_pair : {A B : Type 0} (P : ℕ → A → B → Type 0) (xs : List A) (ys : List B) → BothFrom P 0 xs ys → (n : ℕ) (x : A) (y : B)
+    → slice_get xs n ≡ Some x → slice_get ys n ≡ Some y → P n x y
 each_pair P xs ys b n x y e f = let none : 0 + n ≡ n = omega arith in subst (λ m. P m x y) none (both_at P 0 xs ys n x y b e f)

@@ -36,13 +36,16 @@ use Rattle.lane_waves.proofs.Giving.{none_back, holds_take}
 use Rattle.lane_waves.proofs.Homes.{HomeAt, homes_hold, homes_at, homes_up, homes_ready, hands_down}
 use Rattle.lane_waves.proofs.Ending.{Runs, runs_of, zip_many, all_over, all_of, no_ends, all_seated, seats_at, ends_are, lanes_ran}
 
-module _ {W D S B X : Type 0} {G : Ghosts B} (sight : S → Sight) (tables : ℕ → TableId) (K : Shape) (gs : List (Guarded (SharedLog D))) (hs : List (Guarded (SharedShard S))) (open_ : AreLocksOpen sight tables K gs hs) where
+module _ {W D S B X : Type 0} {G : Ghosts B} (sight : S → Sight) (tables : ℕ → TableId) (K : Shape) (gs : List (Guarded (SharedLog D)))
+    (hs : List (Guarded (SharedShard S))) (open_ : AreLocksOpen sight tables K gs hs) where
   -- each coordinator has all its seats
-  homes_back : (lanes : List LaneOf) (rs qs : List (LaneRun W D S B X G)) (homes : List (Vec (Seat (SharedLog D)))) → Runs sight tables K gs hs (reverse lanes) rs qs → Chunks K.lanes (reverse homes) qs → AllFrom (HomeAt K.lanes tables) 0 homes
+  homes_back : (lanes : List LaneOf) (rs qs : List (LaneRun W D S B X G)) (homes : List (Vec (Seat (SharedLog D))))
+      → Runs sight tables K gs hs (reverse lanes) rs qs → Chunks K.lanes (reverse homes) qs → AllFrom (HomeAt K.lanes tables) 0 homes
   homes_back lanes rs qs homes runs chunks =
       let some = open_.limits.some_lane in
       let seats = seats_at sight tables K gs hs open_ (reverse lanes) rs qs some runs in
-      subst (AllFrom (HomeAt K.lanes tables) 0) (reverse-reverse homes) (homes_up K.lanes tables (reverse homes) (homes_at K.lanes some tables (reverse homes) qs chunks seats))
+      subst (AllFrom (HomeAt K.lanes tables) 0) (reverse-reverse homes)
+      (homes_up K.lanes tables (reverse homes) (homes_at K.lanes some tables (reverse homes) qs chunks seats))
 
   -- the lanes of a table have run, and may give back their seats
   pub record HaveRun (lanes : List LaneOf) (t u : Table W D S B X G) : Type 0 where
@@ -52,7 +55,8 @@ module _ {W D S B X : Type 0} {G : Ghosts B} (sight : S → Sight) (tables : ℕ
     pub room : MayGather u
     pub begun : RunsGathered hs u.runs.items u
 
-  run_to_end : (lanes : List LaneOf) (t : Table W D S B X G) (qs : Vec (LaneRun W D S B X G)) → AreLanesWaiting sight hs 0 t → HaveSeats sight tables K gs hs 0 lanes t → length lanes ≡ K.coordinators * K.lanes
+  run_to_end : (lanes : List LaneOf) (t : Table W D S B X G) (qs : Vec (LaneRun W D S B X G)) → AreLanesWaiting sight hs 0 t
+      → HaveSeats sight tables K gs hs 0 lanes t → length lanes ≡ K.coordinators * K.lanes
       → AllZip (RunEnds sight tables K) t.runs.items qs.items → HaveRun lanes t (record t { runs = qs })
   run_to_end lanes t qs waiting seats lanes_many ends =
       let none = none_long t.lanes.items waiting.room.lanes_many in
@@ -73,7 +77,8 @@ module _ {W D S B X : Type 0} {G : Ghosts B} (sight : S → Sight) (tables : ℕ
           seats = (waiting.room.seats.0, let a = waiting.room.seats.1 in omega (arith, a, rows));
           spare = (waiting.room.spare.0, let a = waiting.room.spare.1 in omega (arith, a, rows));
           lanes_take = let h = waiting.room.lanes_hold in let z = waiting.room.lanes_many in omega (arith, h, z, same);
-          over = subst (λ n. AllOver n qs.items) (sym (rows ∙ open_.shards_many)) (all_over sight tables K gs hs (reverse lanes) t.runs.items qs.items runs);
+          over = subst (λ n. AllOver n qs.items) (sym (rows ∙ open_.shards_many))
+              (all_over sight tables K gs hs (reverse lanes) t.runs.items qs.items runs);
         };
         begun = record {
           gone = [];
@@ -85,15 +90,18 @@ module _ {W D S B X : Type 0} {G : Ghosts B} (sight : S → Sight) (tables : ℕ
         };
       }
 
-  pub have_run : (lanes : List LaneOf) (t u : Table W D S B X G) → AreLanesWaiting sight hs 0 t → HaveSeats sight tables K gs hs 0 lanes t → length lanes ≡ K.coordinators * K.lanes
+  pub have_run : (lanes : List LaneOf) (t u : Table W D S B X G) → AreLanesWaiting sight hs 0 t → HaveSeats sight tables K gs hs 0 lanes t
+      → length lanes ≡ K.coordinators * K.lanes
       → AreRun sight tables K t u → HaveRun lanes t u
-  have_run lanes t u waiting seats lanes_many ran = subst (HaveRun lanes t) (sym ran.rest) (run_to_end lanes t ran.runs waiting seats lanes_many ran.ends)
+  have_run lanes t u waiting seats lanes_many ran =
+      subst (HaveRun lanes t) (sym ran.rest) (run_to_end lanes t ran.runs waiting seats lanes_many ran.ends)
 
   -- the runs that are gone from the list are all
   all_gone : (news : List (LaneRun W D S B X G)) (u : Table W D S B X G) → u.runs.items ≡ [] → (k : RunsGathered hs news u) → news ≡ k.gone
   all_gone news u none k = k.all_are ∙ ap (λ xs. xs ++ k.gone) none
 
-  pub all_through : (lanes : List LaneOf) (t u v : Table W D S B X G) (homes : List (Vec (Seat (SharedLog D)))) → HaveRun lanes t u → RunsGathered hs u.runs.items v → v.runs.items ≡ [] → Chunks K.lanes (reverse homes) u.runs.items
+  pub all_through : (lanes : List LaneOf) (t u v : Table W D S B X G) (homes : List (Vec (Seat (SharedLog D)))) → HaveRun lanes t u
+      → RunsGathered hs u.runs.items v → v.runs.items ≡ [] → Chunks K.lanes (reverse homes) u.runs.items
       → length homes ≡ length gs → length lanes ≡ K.coordinators * K.lanes → AreThrough sight K gs hs homes v.rows.items lanes v.lanes.items
   all_through lanes t u v homes h back none chunks homes_many lanes_many =
       let some = open_.limits.some_lane in
@@ -106,18 +114,24 @@ module _ {W D S B X : Type 0} {G : Ghosts B} (sight : S → Sight) (tables : ℕ
       let gone_many : length back.gone ≡ n = sym (ap (λ (xs : List (LaneRun W D S B X G)). length xs) gone) ∙ h.many in
       let ran = lanes_ran sight tables K gs hs open_ lanes v.lanes.items t.runs.items qs (reverse homes) homes v.rows.items some
       (λ c. ap (λ (xs : List (Vec (Seat (SharedLog D)))). hands_at xs c) (sym (reverse-reverse homes)) ∙ hands_down (reverse homes) c) runs
-      (ends_are qs back.gone (reverse v.lanes.items) gone back.lanes) (homes_hold K.lanes some (reverse homes) qs chunks).0 (subst (λ xs. AllGave xs v.rows.items) (sym gone) back.gave) in
+      (ends_are qs back.gone (reverse v.lanes.items) gone back.lanes) (homes_hold K.lanes some (reverse homes) qs chunks).0
+      (subst (λ xs. AllGave xs v.rows.items) (sym gone) back.gave) in
       record {
-        homes_ready = homes_ready K.lanes tables some (home_lanes K) 0 gs homes homes_many (λ c. many_lanes (c * K.lanes) K.lanes) (homes_back lanes t.runs.items qs homes runs chunks) open_.log_tables open_.log_lanes;
-        rows_ready = all_back n hs v.rows.items any (have_lanes 0 (all_lanes K) n hs (many_lanes 0 n) open_.shard_lanes) (subst (λ m. AreSeatsBack m hs v.rows.items) gone_many back.back);
+        homes_ready = homes_ready K.lanes tables some (home_lanes K) 0 gs homes homes_many (λ c. many_lanes (c * K.lanes) K.lanes)
+            (homes_back lanes t.runs.items qs homes runs chunks) open_.log_tables open_.log_lanes;
+        rows_ready = all_back n hs v.rows.items any (have_lanes 0 (all_lanes K) n hs (many_lanes 0 n) open_.shard_lanes)
+            (subst (λ m. AreSeatsBack m hs v.rows.items) gone_many back.back);
         many = sym (both_many (LaneRan K (log_at gs) (shard_at sight hs) (hands_at homes) (hands_at v.rows.items)) 0 lanes v.lanes.items ran);
         lanes_ran = each_pair (LaneRan K (log_at gs) (shard_at sight hs) (hands_at homes) (hands_at v.rows.items)) lanes v.lanes.items ran;
       }
 
 -- before the dealing all lanes of a wave wait for their seats
-pub lanes_wait : {W D S B X : Type 0} {G : Ghosts B} (sight : S → Sight) (K : Shape) (hs : List (Guarded (SharedShard S))) (rows : Vec (Vec (Seat (SharedShard S)))) (lanes : Vec LaneOf) (room : LaneRoom W D S B X G)
-    → length hs ≡ K.shards → AreLeft (shard_sight sight) (all_lanes K) hs rows.items → All MayRun lanes.items → length lanes.items ≡ K.coordinators * K.lanes → IsLaneRoom K room
-    → AreLanesWaiting sight hs (K.coordinators * K.lanes) (record { rows = rows; spare = room.spare; seats = room.seats; rooms = room.rooms; lanes = lanes; runs = room.runs })
+pub lanes_wait : {W D S B X : Type 0} {G : Ghosts B} (sight : S → Sight) (K : Shape) (hs : List (Guarded (SharedShard S)))
+    (rows : Vec (Vec (Seat (SharedShard S)))) (lanes : Vec LaneOf) (room : LaneRoom W D S B X G)
+    → length hs ≡ K.shards → AreLeft (shard_sight sight) (all_lanes K) hs rows.items → All MayRun lanes.items
+    → length lanes.items ≡ K.coordinators * K.lanes → IsLaneRoom K room
+    → AreLanesWaiting sight hs (K.coordinators * K.lanes)
+    (record { rows = rows; spare = room.spare; seats = room.seats; rooms = room.rooms; lanes = lanes; runs = room.runs })
 lanes_wait sight K hs rows lanes room shards_many left may lanes_many k =
     let seen = shard_sight sight in
     let none : length room.runs.items ≡ 0 = ap (λ (xs : List _). length xs) k.runs.0 in

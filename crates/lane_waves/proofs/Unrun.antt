@@ -1,5 +1,6 @@
 -- Where memory was wanting before the first call: each node's lock says that nothing was done, and each lane has stopped for it.
-use Rattle.std.proofs.Common.{◌≡◌, inl, inr, ℕ, zero, suc, ◌+◌, ◌<◌, ◌≤◌, Bool, true, false, eqb, List, [], ◌∷◌, ◌++◌, map, Some, None, refl, sym, ap, ◌∙◌, subst, arith}
+use Rattle.std.proofs.Common.{◌≡◌, inl, inr, ℕ, zero, suc, ◌+◌, ◌<◌, ◌≤◌, Bool, true, false, eqb, List, [], ◌∷◌, ◌++◌, map, Some, None, refl, sym, ap}
+use Rattle.std.proofs.Common.{◌∙◌, subst, arith}
 use Rattle.std.specs.Prelude.{slice_get}
 use Rattle.cbdc_model.specs.Records.{Shape}
 use Rattle.cbdc_model.specs.Ranges.{home_of}
@@ -31,9 +32,13 @@ pub fresh_hand : (first : Sight) (from n j : ℕ) → j < n → IsHand (fresh fi
 fresh_hand first from zero j lt = absurd (let z : j < 0 = lt in omega (arith, z))
 fresh_hand first from (suc n) j lt = go (eqb j n) refl (fresh_hand first from n j)
   where
-    go : (b : Bool) → eqb j n ≡ b → (j < n → IsHand (fresh first (from + j)) (map (fresh first) (lanes_from from n))) → IsHand (fresh first (from + j)) (map (fresh first) (lanes_from from n ++ (from + n) ∷ []))
-    go true e before = let same : from + n ≡ from + j = grind (arith, e) in subst (λ x. IsHand (fresh first (from + j)) (map (fresh first) (lanes_from from n ++ x ∷ []))) (sym same) (hand_last first (from + j) (lanes_from from n))
-    go false e before = let less : j < n = grind (arith, e, lt) in hand_more (fresh first (from + j)) first (from + n) (lanes_from from n) (before less)
+    go : (b : Bool) → eqb j n ≡ b → (j < n → IsHand (fresh first (from + j)) (map (fresh first) (lanes_from from n)))
+        → IsHand (fresh first (from + j)) (map (fresh first) (lanes_from from n ++ (from + n) ∷ []))
+    go true e before = let same : from + n ≡ from + j = grind (arith, e) in
+        subst (λ x. IsHand (fresh first (from + j)) (map (fresh first) (lanes_from from n ++ x ∷ []))) (sym same)
+        (hand_last first (from + j) (lanes_from from n))
+    go false e before = let less : j < n = grind (arith, e, lt) in
+        hand_more (fresh first (from + j)) first (from + n) (lanes_from from n) (before less)
 
 -- nothing was done at a node whose lock has only fresh hands
 covered : (first : Sight) (x : ℕ) (ls : List ℕ) → total (hand_at_lane x) (map (fresh first) ls) ≡ times x ls
@@ -56,7 +61,8 @@ hands_fresh first last (l ∷ ls) later = (
   hands_fresh first last ls later,
 )
 
-pub still_ran : (first last : Sight) (ls : List ℕ) → ((x : ℕ) → times x ls ≤ 1) → IsStillSight first last → NodeRan first ls (map (fresh first) ls) last
+pub still_ran : (first last : Sight) (ls : List ℕ) → ((x : ℕ) → times x ls ≤ 1) → IsStillSight first last
+    → NodeRan first ls (map (fresh first) ls) last
 still_ran first last ls apart still = record {
   apart = apart;
   done = record {
@@ -72,14 +78,16 @@ still_ran first last ls apart still = record {
 
 -- a lane that was not run
 pub unrun : (K : Shape) (logs shards : ℕ → Sight) (log_hands shard_hands : ℕ → List Hand) (lane : ℕ) (x y : LaneOf)
-    → IsLaneSettled K lane (logs (home_of K lane)) shards → IsHand (fresh (logs (home_of K lane)) lane) (log_hands (home_of K lane)) → ((s : ℕ) → s < K.shards → IsHand (fresh (shards s) lane) (shard_hands s))
+    → IsLaneSettled K lane (logs (home_of K lane)) shards → IsHand (fresh (logs (home_of K lane)) lane) (log_hands (home_of K lane))
+    → ((s : ℕ) → s < K.shards → IsHand (fresh (shards s) lane) (shard_hands s))
     → ((s : ℕ) → K.shards ≤ s → shards s ≡ no_sight) → y.txs ≡ x.txs → HasStoppedForMemory y → LaneRan K logs shards log_hands shard_hands lane x y
 unrun K logs shards log_hands shard_hands lane x y settled at_home at_shards past txs stopped = record {
   log = started lane (logs (home_of K lane));
   seen = λ s. started lane (shards s);
   log' = started lane (logs (home_of K lane));
   seen' = λ s. started lane (shards s);
-  settled = settled_like K lane (logs (home_of K lane)) (started lane (logs (home_of K lane))) shards (λ s. started lane (shards s)) refl refl (λ s. refl) settled;
+  settled = settled_like K lane (logs (home_of K lane)) (started lane (logs (home_of K lane))) shards (λ s. started lane (shards s)) refl refl
+      (λ s. refl) settled;
   at_log = record { now = fresh (logs (home_of K lane)) lane; among = at_home; of_lane = refl; was = refl; is = refl; later = omega arith };
   at_shard = λ s lt. record { now = fresh (shards s) lane; among = at_shards s lt; of_lane = refl; was = refl; is = refl; later = omega arith };
   beyond = λ s le. (ap (λ (v : Sight). v.seen) (past s le), refl, ap (λ (v : Sight). v.seen) (past s le));
@@ -88,7 +96,8 @@ unrun K logs shards log_hands shard_hands lane x y settled at_home at_shards pas
 }
 
 -- lanes with the same transactions
-pub same_txs : (xs ys : List LaneOf) (n : ℕ) (x y : LaneOf) → map (λ (z : LaneOf). z.txs) ys ≡ map (λ (z : LaneOf). z.txs) xs → slice_get xs n ≡ Some x → slice_get ys n ≡ Some y → y.txs ≡ x.txs
+pub same_txs : (xs ys : List LaneOf) (n : ℕ) (x y : LaneOf) → map (λ (z : LaneOf). z.txs) ys ≡ map (λ (z : LaneOf). z.txs) xs
+    → slice_get xs n ≡ Some x → slice_get ys n ≡ Some y → y.txs ≡ x.txs
 same_txs [] ys n x y e f h = absurd (let z : None ≡ Some x = f in cc)
 same_txs (v ∷ xs) [] n x y e f h = absurd (let z : None ≡ Some y = h in cc)
 same_txs (v ∷ xs) (w ∷ ys) zero x y e f h =
@@ -97,5 +106,6 @@ same_txs (v ∷ xs) (w ∷ ys) zero x y e f h =
     let c : w.txs ≡ v.txs = let z : w.txs ∷ map (λ (u : LaneOf). u.txs) ys ≡ v.txs ∷ map (λ (u : LaneOf). u.txs) xs = e in cc in
     sym (ap (λ (z : LaneOf). z.txs) b) ∙ (c ∙ ap (λ (z : LaneOf). z.txs) a)
 same_txs (v ∷ xs) (w ∷ ys) (suc n) x y e f h =
-    let c : map (λ (u : LaneOf). u.txs) ys ≡ map (λ (u : LaneOf). u.txs) xs = let z : w.txs ∷ map (λ (u : LaneOf). u.txs) ys ≡ v.txs ∷ map (λ (u : LaneOf). u.txs) xs = e in cc in
+    let c : map (λ (u : LaneOf). u.txs) ys ≡ map (λ (u : LaneOf). u.txs) xs =
+    let z : w.txs ∷ map (λ (u : LaneOf). u.txs) ys ≡ v.txs ∷ map (λ (u : LaneOf). u.txs) xs = e in cc in
     same_txs xs ys n x y c f h

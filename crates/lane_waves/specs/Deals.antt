@@ -108,7 +108,8 @@ log_at gs = sight_at (λ g. log_sight (opening_of g)) gs
 abbrev pub shard_at : {S : Type 0} → (S → Sight) → List (Guarded (SharedShard S)) → ℕ → Sight
 shard_at sight hs = sight_at (λ h. shard_sight sight (opening_of h)) hs
 
-module _ {D S : Type 0} (sight : S → Sight) (tables : ℕ → TableId) (K : Shape) (gs : List (Guarded (SharedLog D))) (hs : List (Guarded (SharedShard S))) where
+module _ {D S : Type 0} (sight : S → Sight) (tables : ℕ → TableId) (K : Shape) (gs : List (Guarded (SharedLog D)))
+    (hs : List (Guarded (SharedShard S))) where
   -- the locks are of the ledger's nodes, each for the lanes that ask it; all lanes are settled there; and the wave's picks are these locks
   pub record AreLocksOpen : Type 0 where
     pub limits : IsWithinLimits K

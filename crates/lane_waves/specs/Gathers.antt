@@ -122,7 +122,8 @@ module _ {W D S B X : Type 0} {G : Ghosts B} where
   -- so many runs for each of these lists of seats, in their order; each list has the seats of its runs at their coordinator, the last first
   abbrev pub Chunks : ℕ → List (Vec (Seat (SharedLog D))) → List (LaneRun W D S B X G) → Type 0
   Chunks n [] runs = runs ≡ []
-  Chunks n (own ∷ owns) runs = (chunk : List (LaneRun W D S B X G)) × (rest : List (LaneRun W D S B X G)) × (runs ≡ chunk ++ rest) × (length chunk ≡ n) × (reverse own.items ≡ map home_seat chunk) × Chunks n owns rest
+  Chunks n (own ∷ owns) runs = (chunk : List (LaneRun W D S B X G)) × (rest : List (LaneRun W D S B X G)) × (runs ≡ chunk ++ rest)
+      × (length chunk ≡ n) × (reverse own.items ≡ map home_seat chunk) × Chunks n owns rest
 
   -- so many runs for each of these lists of seats, the last list first; each list has the seats of its runs at their coordinator
   abbrev pub HomesBack : ℕ → List (LaneRun W D S B X G) → List (Vec (Seat (SharedLog D))) → Type 0

@@ -18,7 +18,8 @@ module _ {N : Type 0} (sight : N → Sight) (goes : N → N → Type 0) where
 
   -- nodes that were asked nothing are still
   abbrev pub NodesStillLaw : Type 0
-  NodesStillLaw = (old new : List N) → AreStill sight goes old new → (n : ℕ) → n < length old → IsStillSight (sight_at sight old n) (sight_at sight new n)
+  NodesStillLaw = (old new : List N) → AreStill sight goes old new → (n : ℕ) → n < length old
+      → IsStillSight (sight_at sight old n) (sight_at sight new n)
 
   -- each went on from its state at the opening
   abbrev pub WentOn : List N → List N → Type 0

@@ -21,14 +21,19 @@ pub record KeepsPorts {P : Type 0} (sight : P → Sight) (holds : P → Type 0) 
 -- what a lane sees through its seats
 abbrev pub seat_sights : {W X P L : Type 0} → LogGhosts L → ShardGhosts P → Ports (SeatSet W X P) L → LaneSights
 seat_sights log shard ports =
-    record { home = log.sights ports.log (log.at ports.log); logs = log.sights ports.log; shards = sight_at shard.sight ports.shards.each.ports.items }
+    record {
+      home = log.sights ports.log (log.at ports.log);
+      logs = log.sights ports.log;
+      shards = sight_at shard.sight ports.shards.each.ports.items;
+    }
 
 -- this holds of the lane's coordinator and of the shards, as the seats show them
 abbrev pub SeatsShow : {W X P L : Type 0} → LogGhosts L → ShardGhosts P → Ports (SeatSet W X P) L → (Sight → (ℕ → Sight) → Type 0) → Type 0
 SeatsShow log shard ports holds = holds (log.sights ports.log (log.at ports.log)) (sight_at shard.sight ports.shards.each.ports.items)
 
 -- this holds from what the seats show before to what they show behind
-abbrev pub SeatsTell : {W X P L : Type 0} → LogGhosts L → ShardGhosts P → Ports (SeatSet W X P) L → Ports (SeatSet W X P) L → (LaneSights → LaneSights → Type 0) → Type 0
+abbrev pub SeatsTell : {W X P L : Type 0} → LogGhosts L → ShardGhosts P → Ports (SeatSet W X P) L → Ports (SeatSet W X P) L
+    → (LaneSights → LaneSights → Type 0) → Type 0
 SeatsTell log shard old new holds = holds (seat_sights log shard old) (seat_sights log shard new)
 
 -- what the calls of a lane keep of its seats

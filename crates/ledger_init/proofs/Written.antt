@@ -1,5 +1,6 @@
 -- The first records, written from the last node on.
-use Rattle.std.proofs.Common.{◌≡◌, ℕ, suc, ◌+◌, ◌≤◌, ◌<◌, List, [], ◌∷◌, ◌++◌, length, Option, sym, ◌∙◌, ap, subst, arith, append_assoc, length-append}
+use Rattle.std.proofs.Common.{◌≡◌, ℕ, suc, ◌+◌, ◌≤◌, ◌<◌, List, [], ◌∷◌, ◌++◌, length, Option, sym, ◌∙◌, ap, subst, arith, append_assoc}
+use Rattle.std.proofs.Common.{length-append}
 use Rattle.outside.specs.declared.disk.Disk.{Ghosts}
 use Rattle.cbdc_types.specs.declared.answer.Answer.{Answer}
 use Rattle.cbdc_model.specs.Records.{Record}
@@ -10,7 +11,8 @@ use Rattle.rack_ledgers.proofs.Range.{opening_later}
 use Rattle.ledger_init.specs.Places.{WritingStopsAt, IsSafe, IsFirstWritten, IsStopped}
 
 -- it stops at a node, and those before it are closed
-pub stops : {X : Type 0} (W F P Q : ℕ → X → Type 0) (front rest whole : List X) (x : X) (node : ℕ) → node ≡ length rest → front ≡ rest ++ x ∷ [] → ListGoesOn P 0 front whole
+pub stops : {X : Type 0} (W F P Q : ℕ → X → Type 0) (front rest whole : List X) (x : X) (node : ℕ) → node ≡ length rest → front ≡ rest ++ x ∷ []
+    → ListGoesOn P 0 front whole
     → ((k : ℕ) (d : X) → node < k → P k d → Q k d) → F node x → EachFrom W 0 rest → WritingStopsAt W F Q whole
 stops W F P Q front rest whole x node place last so_far keeps fails waits =
     let longer : 0 + length front ≡ suc (length rest) = omega (arith, ap length last, length-append rest (x ∷ [])) in
@@ -26,10 +28,12 @@ stops W F P Q front rest whole x node place last so_far keeps fails waits =
     }
 
 module _ {D : Type 0} (device : Ghosts D) where
-  pub done_still : (first : Record) (given : D) (old new : Option D) → new ≡ old → IsFirstWritten device first given old → IsFirstWritten device first given new
+  pub done_still : (first : Record) (given : D) (old new : Option D) → new ≡ old → IsFirstWritten device first given old
+      → IsFirstWritten device first given new
   done_still first given old new same is = subst (λ (h : Option D). IsFirstWritten device first given h) (sym same) is
 
-  pub stopped_still : (node : ℕ) (first : Record) (a : Answer) (now later : ℕ) (given : D) (old new : Option D) → new ≡ old → now ≤ later → IsStopped device node first a now given old → IsStopped device node first a later given new
+  pub stopped_still : (node : ℕ) (first : Record) (a : Answer) (now later : ℕ) (given : D) (old new : Option D) → new ≡ old → now ≤ later
+      → IsStopped device node first a now given old → IsStopped device node first a later given new
   stopped_still node first a now later given old new same le is = record {
     safe = subst (λ (h : Option D). OfTold h (IsSafe device node first a given)) (sym same) is.safe;
     refusal = is.refusal;

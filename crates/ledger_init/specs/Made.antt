@@ -25,11 +25,13 @@ first_record_of K mint n = first_record K (minted mint) n
 
 -- where the disk told its content, it now holds this record alone, and so does whatever a crash may leave of it
 abbrev pub HoldsFirst : {D : Type 0} → Ghosts D → Record → Option D → Option D → Type 0
-HoldsFirst device first old new = OfTold old (λ was. OfTold new (λ now. IsSome (device.content was) → HoldsRecords (device.content now) (device.images now) (9 + length (body_of first)) (first ∷ [])))
+HoldsFirst device first old new = OfTold old (λ was. OfTold new
+    (λ now. IsSome (device.content was) → HoldsRecords (device.content now) (device.images now) (9 + length (body_of first)) (first ∷ [])))
 
 -- where the disk told its content, a crash leaves nothing but what has the property, by what it might have left before
 abbrev pub LeavesBut : {D : Type 0} → Ghosts D → ((List ℕ → Type 0) → List ℕ → Type 0) → Option D → Option D → Type 0
-LeavesBut device P old new = OfTold old (λ was. OfTold new (λ now. IsSome (device.content was) → (c : List ℕ) → device.images now c → P (device.images was) c))
+LeavesBut device P old new = OfTold old (λ was. OfTold new
+    (λ now. IsSome (device.content was) → (c : List ℕ) → device.images now c → P (device.images was) c))
 
 -- the node's disk, where its content is told, is in use
 abbrev pub ToldInUse : {D : Type 0} → Ghosts D → (ℕ → Option D) → ℕ → Type 0
@@ -67,8 +69,10 @@ pub record IsLastFull {D : Type 0} (K : Shape) (mint : List Output) (device : Gh
 abbrev pub IsUnmade : {D : Type 0} → Shape → List Output → Ghosts D → (ℕ → Option D) → (ℕ → ℕ) → (ℕ → ℕ) → Answer → Type 0
 IsUnmade K mint device held before now (answers.TooMuch total) = (total ≡ value_out mint) × (2 ^ 64 ≤ total)
 IsUnmade K mint device held before now (answers.NotEmpty n) = IsFirstInUse K mint device held n
-IsUnmade K mint device held before now (answers.Full n used need capacity) = MayBeMade K mint device held × (used ≡ 0) × IsLastFull K mint device held n need capacity
-IsUnmade K mint device held before now (answers.DiskFault n) = (value_out mint < 2 ^ 64) × (n < node_count K) × Rose (before n) (now n) × ((m : ℕ) → m < n → ToldUnused device held m)
+IsUnmade K mint device held before now (answers.Full n used need capacity) = MayBeMade K mint device held × (used ≡ 0)
+    × IsLastFull K mint device held n need capacity
+IsUnmade K mint device held before now (answers.DiskFault n) = (value_out mint < 2 ^ 64) × (n < node_count K) × Rose (before n) (now n)
+    × ((m : ℕ) → m < n → ToldUnused device held m)
 IsUnmade K mint device held before now answers.Memory = Unit {0}
 IsUnmade K mint device held before now other = ⊥
 
@@ -84,7 +88,8 @@ IsOfNode k other = ⊥
 -- no node was in use (`MayBeMade`), and the writing of first records, from the highest node down, stopped at this one, of which the answer speaks.
 -- The disks of the nodes below it are unchanged, those above it hold their first records, and a crash leaves of its own no first record, what it
 -- might have left before, or, where the disk failed, the new one alone
-pub record InitStoppedAt {D : Type 0} (K : Shape) (mint : List Output) (device : Ghosts D) (before now : ℕ → Option D) (answer : Answer) (k : ℕ) : Type 0 where
+pub record InitStoppedAt {D : Type 0} (K : Shape) (mint : List Output) (device : Ghosts D) (before now : ℕ → Option D) (answer : Answer) (k : ℕ) :
+    Type 0 where
   pub was : MayBeMade K mint device before
   pub inside : k < node_count K
   pub told : IsOfNode k answer

@@ -18,7 +18,8 @@ minted_by t = record { id = t.id; hashes = t.outputs }
 
 -- where a disk that was given told its content, it now holds this record alone, and so does whatever a crash may leave of it
 abbrev pub HoldsOf : {D : Type 0} → Ghosts D → Record → D → D → Type 0
-HoldsOf device first given now = IsSome (device.content given) → HoldsRecords (device.content now) (device.images now) (9 + length (body_of first)) (first ∷ [])
+HoldsOf device first given now = IsSome (device.content given)
+    → HoldsRecords (device.content now) (device.images now) (9 + length (body_of first)) (first ∷ [])
 
 -- where a disk that was given told its content, a crash leaves nothing but what has the property, by what it might have left then
 abbrev pub LeavesOf : {D : Type 0} → Ghosts D → ((List ℕ → Type 0) → List ℕ → Type 0) → D → D → Type 0
@@ -37,10 +38,11 @@ pub record IsFirstWritten {D : Type 0} (device : Ghosts D) (first : Record) (giv
   pub same : OfTold held (λ now. device.limit now ≡ device.limit given)
 
 -- this node's disk did not take its first record, and why
-pub record IsStopped {D : Type 0} (device : Ghosts D) (node : ℕ) (first : Record) (answer : Answer) (now : ℕ) (given : D) (held : Option D) : Type 0 where
-  pub safe : OfTold held (IsSafe device node first answer given)
-  pub refusal : IsUnwritten node (device.limit given) first answer
-  pub opening : IsOpening node (device.count given) now answer
+pub record IsStopped {D : Type 0} (device : Ghosts D) (node : ℕ) (first : Record) (answer : Answer) (now : ℕ) (given : D) (held : Option D) : Type 0
+  where
+    pub safe : OfTold held (IsSafe device node first answer given)
+    pub refusal : IsUnwritten node (device.limit given) first answer
+    pub opening : IsOpening node (device.count given) now answer
 
 -- the writing stopped at one of the items: those behind it are done, and those before it are as they were
 pub record WritingStopsAt {X : Type 0} (Waits Fails Done : ℕ → X → Type 0) (whole : List X) : Type 0 where

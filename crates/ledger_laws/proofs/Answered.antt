@@ -17,8 +17,10 @@ pub data LockAnswered (J : List Record) (b : Batch) (p : List Entry) (cause : �
 
 pub data FinishAnswered (J : List Record) (b : Batch) (ds : List Bool) (cause : ℕ) : Type 0 where
   finish_stale : IsStale J b → FinishAnswered J b ds cause
-  finish_stored : (slot J b.lane).number ≡ b.number → (slot J b.lane).phase ≡ InFinish → decisions_in (record_of 3 J b) ≡ ds → FinishAnswered J b ds cause
-  finish_appends : (slot J b.lane).number ≡ b.number → (slot J b.lane).phase ≡ InLock → FitsReplies (lock_of J b) ds → slot_stamp J b.lane < cause → FinishAnswered J b ds cause
+  finish_stored : (slot J b.lane).number ≡ b.number → (slot J b.lane).phase ≡ InFinish → decisions_in (record_of 3 J b) ≡ ds
+      → FinishAnswered J b ds cause
+  finish_appends : (slot J b.lane).number ≡ b.number → (slot J b.lane).phase ≡ InLock → FitsReplies (lock_of J b) ds → slot_stamp J b.lane < cause
+      → FinishAnswered J b ds cause
 
 pub data ForgetAnswered (J : List Record) (b : Batch) (cause : ℕ) : Type 0 where
   forget_stale : b.number < (slot J b.lane).number → ForgetAnswered J b cause

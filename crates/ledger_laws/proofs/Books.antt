@@ -1,5 +1,6 @@
 -- The book as a map: how look-ups and totals change when a coin goes or comes.
-use Rattle.std.proofs.Common.{◌≡◌, ℕ, ◌+◌, true, false, cond, List, [], ◌∷◌, map, Some, None, refl, sym, ap, ◌∙◌, arith, sum_by, Ordering, Less, Equal, Greater, nat_cmp}
+use Rattle.std.proofs.Common.{◌≡◌, ℕ, ◌+◌, true, false, cond, List, [], ◌∷◌, map, Some, None, refl, sym, ap, ◌∙◌, arith, sum_by, Ordering, Less}
+use Rattle.std.proofs.Common.{Equal, Greater, nat_cmp}
 use Rattle.std.proofs.lemmas.List.Sums.{sum_by-cons}
 use Rattle.std.specs.FinMap as book
 use Rattle.std.specs.Ordering.{eq_by_cmp, is_eq}
@@ -54,7 +55,8 @@ entries_total f es = sum_by f (map (λ e. e.1) es)
 entries_total-cons : (f : Output → ℕ) (e : List ℕ × Output) (es : List (List ℕ × Output)) → entries_total f (e ∷ es) ≡ f e.1 + entries_total f es
 entries_total-cons f e es = sum_by-cons f e.1 (map (λ e. e.1) es)
 
-entries_total-put : (f : Output → ℕ) (k : List ℕ) (o : Output) (es : List (List ℕ × Output)) → find key_cmp k es ≡ None → entries_total f (put key_cmp k o es) ≡ f o + entries_total f es
+entries_total-put : (f : Output → ℕ) (k : List ℕ) (o : Output) (es : List (List ℕ × Output)) → find key_cmp k es ≡ None
+    → entries_total f (put key_cmp k o es) ≡ f o + entries_total f es
 entries_total-put f k o [] h = entries_total-cons f (k, o) []
 entries_total-put f k o (e ∷ es) h = elim (key_cmp k e.0) as (λ r. key_cmp k e.0 ≡ r → cond (is_eq r) (Some e.1) (find key_cmp k es) ≡ None
     → entries_total f (by_order r ((k, o) ∷ e ∷ es) ((e.0, o) ∷ es) (e ∷ put key_cmp k o es)) ≡ f o + entries_total f (e ∷ es)) [

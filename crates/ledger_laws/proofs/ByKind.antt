@@ -1,7 +1,9 @@
 -- Which record it is: what passes the test for a kind and a batch, and what is found by it. Each kind is gone through here once; a law then asks
 -- for the record of its own kind.
-use Rattle.std.proofs.Common.{◌≡◌, ◌⊎◌, inl, inr, ℕ, ◌+◌, ◌<◌, Bool, true, false, cond, ◌&&◌, ◌==◌, List, [], ◌∷◌, Some, None, is_some, refl, ap, ◌∙◌, subst, arith}
-use Rattle.cbdc_model.specs.Records.{Shape, Batch, same_batch, Compact, Outcome, Answered, Record, record_of, kind_of, is_of, is_in_lane, stamp_of, last_stamp, Genesis, Lock, Finish, Forget, Start, Prepare, Commit, Discard, Done}
+use Rattle.std.proofs.Common.{◌≡◌, ◌⊎◌, inl, inr, ℕ, ◌+◌, ◌<◌, Bool, true, false, cond, ◌&&◌, ◌==◌, List, [], ◌∷◌, Some, None, is_some, refl, ap, ◌∙◌}
+use Rattle.std.proofs.Common.{subst, arith}
+use Rattle.cbdc_model.specs.Records.{Shape, Batch, same_batch, Compact, Outcome, Answered, Record, record_of, kind_of, is_of, is_in_lane, stamp_of}
+use Rattle.cbdc_model.specs.Records.{last_stamp, Genesis, Lock, Finish, Forget, Start, Prepare, Commit, Discard, Done}
 use Rattle.cbdc_model.specs.After.{IsFirst}
 use Rattle.ledger_laws.proofs.Next.{Next}
 use Rattle.ledger_laws.proofs.Lookups.{not_true, true_false}
@@ -68,7 +70,8 @@ some_is q r e = cc
 pub found_new : (kind : ℕ) (q : Record) (J : List Record) (b : Batch) → ((kind_of q == kind) && is_of b q) ≡ true → record_of kind (q ∷ J) b ≡ Some q
 found_new kind q J b t = rw t
 
-pub test_step : (kind : ℕ) (r : Record) (J : List Record) (c : Batch) → ((kind_of r == kind) && is_of c r) ≡ false → record_of kind (r ∷ J) c ≡ record_of kind J c
+pub test_step : (kind : ℕ) (r : Record) (J : List Record) (c : Batch) → ((kind_of r == kind) && is_of c r) ≡ false
+    → record_of kind (r ∷ J) c ≡ record_of kind J c
 test_step kind r J c h = rw h
 
 -- what is found passes the test
@@ -78,10 +81,11 @@ found_passes kind (q ∷ J) b r e = step kind q J b r e (λ g. found_passes kind
   where
     step : (kind : ℕ) (q : Record) (J : List Record) (b : Batch) (r : Record) → record_of kind (q ∷ J) b ≡ Some r
         → (record_of kind J b ≡ Some r → ((kind_of r == kind) && is_of b r) ≡ true) → ((kind_of r == kind) && is_of b r) ≡ true
-    step kind q J b r e rest = elim ((kind_of q == kind) && is_of b q) as (λ t. ((kind_of q == kind) && is_of b q) ≡ t → cond t (Some q) (record_of kind J b) ≡ Some r → ((kind_of r == kind) && is_of b r) ≡ true) [
-      | true ↦ λ t g. let same : q ≡ r = some_is q r g in subst (λ a. ((kind_of a == kind) && is_of b a) ≡ true) same t
-      | false ↦ λ t g. rest g
-    ] refl e
+    step kind q J b r e rest = elim ((kind_of q == kind) && is_of b q) as
+        (λ t. ((kind_of q == kind) && is_of b q) ≡ t → cond t (Some q) (record_of kind J b) ≡ Some r → ((kind_of r == kind) && is_of b r) ≡ true) [
+          | true ↦ λ t g. let same : q ≡ r = some_is q r g in subst (λ a. ((kind_of a == kind) && is_of b a) ≡ true) same t
+          | false ↦ λ t g. rest g
+        ] refl e
 
 pub some_there : (J : List Record) (b : Batch) (kind : ℕ) → is_some (record_of kind J b) ≡ true → (r : Record) × (record_of kind J b ≡ Some r)
 some_there J b kind h = elim (record_of kind J b) as (λ o. record_of kind J b ≡ o → is_some o ≡ true → (r : Record) × (record_of kind J b ≡ Some r)) [

@@ -72,14 +72,16 @@ outputs_apart {P = P} apart (t ∷ ts) each inputs x =
     ]
 
 -- the invariant behind a Commit: where no hash is taken twice, and what is made is new and made once
-module _ {genesis : Digest → ℕ} {P Q : Compact → Type 0} {v w : View} (inv : Inv genesis Q v) (b : Batch) (ts : List Compact) (step : Commits P v w b ts) where
+module _ {genesis : Digest → ℕ} {P Q : Compact → Type 0} {v w : View} (inv : Inv genesis Q v) (b : Batch) (ts : List Compact)
+    (step : Commits P v w b ts) where
   -- a hash that is taken was held
   pub held_before : (x : Digest) → 0 < count x (all_inputs ts) → (v.status x ≡ Locked b) × (v.arrived x ≡ 1) × (v.spent x ≡ 0)
   held_before x n =
       let is : v.status x ≡ Locked b = inv.held x b (omega (arith, step.held x)) (step.unfinished x) in
       (is, (inv.locked x b is).0, (inv.locked x b is).2 ∙ step.took_none x)
 
-  module _ (takes_once : (x : Digest) → count x (all_inputs ts) ≤ 1) (is_new : (x : Digest) → 0 < count x (all_outputs ts) → (v.made x ≡ 0) × (genesis x ≡ 0))
+  module _ (takes_once : (x : Digest) → count x (all_inputs ts) ≤ 1)
+      (is_new : (x : Digest) → 0 < count x (all_outputs ts) → (v.made x ≡ 0) × (genesis x ≡ 0))
       (made_once : (x : Digest) → genesis x + w.made x ≤ 1)
       (respent : (t : Compact) (x y : Digest) → Q t → 0 < count x t.outputs → 0 < w.made x → 0 < count y t.inputs → 0 < w.spent y) where
     commit_unspent : (x : Digest) → w.status x ≡ Unspent → (w.arrived x ≡ 1) × (w.spent x ≡ 0)
@@ -173,7 +175,8 @@ module _ {genesis : Digest → ℕ} {P Q : Compact → Type 0} {v w : View} (inv
       respent = respent;
     }
 
-module _ {genesis : Digest → ℕ} {P : Compact → Type 0} (apart : Apart genesis P) {v w : View} (inv : Inv genesis P v) (b : Batch) (ts : List Compact) (step : Commits P v w b ts) where
+module _ {genesis : Digest → ℕ} {P : Compact → Type 0} (apart : Apart genesis P) {v w : View} (inv : Inv genesis P v) (b : Batch) (ts : List Compact)
+    (step : Commits P v w b ts) where
   pub was_held : (x : Digest) → 0 < count x (all_inputs ts) → (v.status x ≡ Locked b) × (v.arrived x ≡ 1) × (v.spent x ≡ 0)
   was_held x n = held_before inv b ts step x n
 

@@ -1,5 +1,6 @@
 -- How often a hash stands in a list.
-use Rattle.std.proofs.Common.{◌⊎◌, inl, inr, subst, ◌≡◌, ℕ, suc, ◌+◌, ◌<◌, true, false, ◌||◌, if◌then◌else◌, List, [], ◌∷◌, ◌++◌, refl, sym, ◌∙◌, arith}
+use Rattle.std.proofs.Common.{◌⊎◌, inl, inr, subst, ◌≡◌, ℕ, suc, ◌+◌, ◌<◌, true, false, ◌||◌, if◌then◌else◌, List, [], ◌∷◌, ◌++◌, refl, sym, ◌∙◌}
+use Rattle.std.proofs.Common.{arith}
 use Rattle.cbdc_model.specs.Records.{Digest, same_digest}
 use Rattle.cbdc_model.specs.Status.{has}
 use Rattle.std.proofs.lemmas.Slice.Eq.{bytes_eq-Decides}
@@ -44,7 +45,8 @@ pub data SameDigest (x y : Digest) : Type 0 where
 pub digests : (x y : Digest) → (x ≡ y) ⊎ (x ≡ y → ⊥)
 digests x y = elim (same_digest x y) as (λ c. same_digest x y ≡ c → (x ≡ y) ⊎ (x ≡ y → ⊥)) [
   | true ↦ λ e. inl (same_digest_is x y e)
-  | false ↦ λ e. inr (λ s. let t : same_digest x y ≡ true = subst (λ z. same_digest x z ≡ true) s (same_digest_self x) in let no_way : true ≡ false = sym t ∙ e in cc)
+  | false ↦ λ e. inr (λ s. let t : same_digest x y ≡ true = subst (λ z. same_digest x z ≡ true) s (same_digest_self x) in let no_way : true ≡ false =
+      sym t ∙ e in cc)
 ] refl
 
 pub same_is_true : (x y : Digest) → x ≡ y → same_digest x y ≡ true

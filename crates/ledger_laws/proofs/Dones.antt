@@ -1,6 +1,7 @@
 -- In one journal a lane's earlier batches are done, and a batch that is forgotten was finished.
 use Rattle.std.proofs.Common.{◌≡◌, ℕ, ◌<◌, ◌≤◌, true, false, ◌==◌, List, ◌∷◌, refl, sym, subst, arith}
-use Rattle.cbdc_model.specs.Records.{Shape, Batch, same_batch, Compact, Outcome, Record, Genesis, Lock, Finish, Forget, Start, Prepare, Commit, Discard, Done}
+use Rattle.cbdc_model.specs.Records.{Shape, Batch, same_batch, Compact, Outcome, Record, Genesis, Lock, Finish, Forget, Start, Prepare, Commit}
+use Rattle.cbdc_model.specs.Records.{Discard, Done}
 use Rattle.cbdc_model.specs.Slots.{slot, Idle, InFinish, InCommit, InDiscard}
 use Rattle.ledger_laws.proofs.Next.{Next, has_finish, has_prepare, has_commit, has_forget}
 use Rattle.ledger_laws.proofs.Slots.{JournalOk}
@@ -32,9 +33,11 @@ module _ (K : Shape) (node : ℕ) (past : List Record) (ok : JournalOk past) (mo
   ]
     where
       itself : (c b : Batch) → c ≡ b → b.number < (slot (Prepare stamp c txs ∷ past) b.lane).number → ⊥
-      itself c b e l = let l' : c.number < (slot (Prepare stamp c txs ∷ past) c.lane).number = subst (λ d. d.number < (slot (Prepare stamp c txs ∷ past) d.lane).number) (sym e) l in grind arith
+      itself c b e l = let l' : c.number < (slot (Prepare stamp c txs ∷ past) c.lane).number =
+          subst (λ d. d.number < (slot (Prepare stamp c txs ∷ past) d.lane).number) (sym e) l in grind arith
 
-  commit_past : (stamp : ℕ) (c : Batch) (os : List Outcome) → Next K node past (Commit stamp c os) → (b : Batch) → has_prepare past b ≡ true → b.number < (slot (Commit stamp c os ∷ past) b.lane).number → has_done past b ≡ true
+  commit_past : (stamp : ℕ) (c : Batch) (os : List Outcome) → Next K node past (Commit stamp c os) → (b : Batch) → has_prepare past b ≡ true
+      → b.number < (slot (Commit stamp c os ∷ past) b.lane).number → has_done past b ≡ true
   commit_past stamp c os next b h l = elim (c.lane == b.lane) as (λ v. (c.lane == b.lane) ≡ v → has_done past b ≡ true) [
     | true ↦ λ e. dones.past_done b h (
         let k : (slot past b.lane).number ≡ c.number = at_lane (λ n. (slot past n).number) c.lane b.lane c.number e next.4 in
@@ -42,7 +45,8 @@ module _ (K : Shape) (node : ℕ) (past : List Record) (ok : JournalOk past) (mo
     | false ↦ λ e. dones.past_done b h (rw e at l)
   ] refl
 
-  discard_past : (stamp : ℕ) (c : Batch) → Next K node past (Discard stamp c) → (b : Batch) → has_prepare past b ≡ true → b.number < (slot (Discard stamp c ∷ past) b.lane).number → has_done past b ≡ true
+  discard_past : (stamp : ℕ) (c : Batch) → Next K node past (Discard stamp c) → (b : Batch) → has_prepare past b ≡ true
+      → b.number < (slot (Discard stamp c ∷ past) b.lane).number → has_done past b ≡ true
   discard_past stamp c next b h l = elim (c.lane == b.lane) as (λ v. (c.lane == b.lane) ≡ v → has_done past b ≡ true) [
     | true ↦ λ e. dones.past_done b h (
         let k : (slot past b.lane).number ≡ c.number = at_lane (λ n. (slot past n).number) c.lane b.lane c.number e next.4 in
@@ -50,7 +54,8 @@ module _ (K : Shape) (node : ℕ) (past : List Record) (ok : JournalOk past) (mo
     | false ↦ λ e. dones.past_done b h (rw e at l)
   ] refl
 
-  past_done_next : (r : Record) → Next K node past r → (b : Batch) → has_prepare (r ∷ past) b ≡ true → b.number < (slot (r ∷ past) b.lane).number → has_done (r ∷ past) b ≡ true
+  past_done_next : (r : Record) → Next K node past r → (b : Batch) → has_prepare (r ∷ past) b ≡ true → b.number < (slot (r ∷ past) b.lane).number
+      → has_done (r ∷ past) b ≡ true
   past_done_next (Genesis header hs) next b h l = absurd next
   past_done_next (Start header) next b h l = absurd next
   past_done_next (Prepare stamp c txs) next b h l = prepare_past stamp c txs next b h l
@@ -59,7 +64,8 @@ module _ (K : Shape) (node : ℕ) (past : List Record) (ok : JournalOk past) (mo
   past_done_next (Done stamp c) next b h l = grind (arith, dones.past_done b, dones.idle_done b)
   past_done_next another next b h l = absurd (true_false _ h (dones.pure b next.1.0))
 
-  idle_done_next : (r : Record) → Next K node past r → (b : Batch) → has_prepare (r ∷ past) b ≡ true → (slot (r ∷ past) b.lane).phase ≡ Idle → has_done (r ∷ past) b ≡ true
+  idle_done_next : (r : Record) → Next K node past r → (b : Batch) → has_prepare (r ∷ past) b ≡ true → (slot (r ∷ past) b.lane).phase ≡ Idle
+      → has_done (r ∷ past) b ≡ true
   idle_done_next (Genesis header hs) next b h p = absurd next
   idle_done_next (Start header) next b h p = absurd next
   idle_done_next (Lock stamp c es) next b h p = absurd (true_false _ h (dones.pure b next.1.0))
@@ -80,8 +86,10 @@ module _ (K : Shape) (node : ℕ) (past : List Record) (ok : JournalOk past) (mo
 
 -- a batch that is committed, discarded or done has its Prepare and its Commit
 pub record PhaseOk (past : List Record) : Type 0 where
-  pub commit_here : (b : Batch) → (slot past b.lane).phase ≡ InCommit → (slot past b.lane).number ≡ b.number → (has_prepare past b ≡ true) × (has_commit past b ≡ true)
-  pub discard_here : (b : Batch) → (slot past b.lane).phase ≡ InDiscard → (slot past b.lane).number ≡ b.number → (has_prepare past b ≡ true) × (has_commit past b ≡ true)
+  pub commit_here : (b : Batch) → (slot past b.lane).phase ≡ InCommit → (slot past b.lane).number ≡ b.number
+      → (has_prepare past b ≡ true) × (has_commit past b ≡ true)
+  pub discard_here : (b : Batch) → (slot past b.lane).phase ≡ InDiscard → (slot past b.lane).number ≡ b.number
+      → (has_prepare past b ≡ true) × (has_commit past b ≡ true)
   pub done_prepared : (b : Batch) → has_done past b ≡ true → (has_prepare past b ≡ true) × (has_commit past b ≡ true)
 
 pub data Which (c b : Batch) : Type 0 where
@@ -129,21 +137,24 @@ module _ (K : Shape) (node : ℕ) (past : List Record) (ok : JournalOk past) (ph
     | other o ↦ phases.done_prepared b (rw o at h)
   ]
 
-  commit_here_next : (r : Record) → Next K node past r → (b : Batch) → (slot (r ∷ past) b.lane).phase ≡ InCommit → (slot (r ∷ past) b.lane).number ≡ b.number
+  commit_here_next : (r : Record) → Next K node past r → (b : Batch) → (slot (r ∷ past) b.lane).phase ≡ InCommit
+      → (slot (r ∷ past) b.lane).number ≡ b.number
       → (has_prepare (r ∷ past) b ≡ true) × (has_commit (r ∷ past) b ≡ true)
   commit_here_next (Genesis header hs) next b p n = absurd next
   commit_here_next (Start header) next b p n = absurd next
   commit_here_next (Commit stamp c os) next b p n = commit_commit_here stamp c os next b p n
   commit_here_next another next b p n = grind (arith, phases.commit_here b)
 
-  discard_here_next : (r : Record) → Next K node past r → (b : Batch) → (slot (r ∷ past) b.lane).phase ≡ InDiscard → (slot (r ∷ past) b.lane).number ≡ b.number
+  discard_here_next : (r : Record) → Next K node past r → (b : Batch) → (slot (r ∷ past) b.lane).phase ≡ InDiscard
+      → (slot (r ∷ past) b.lane).number ≡ b.number
       → (has_prepare (r ∷ past) b ≡ true) × (has_commit (r ∷ past) b ≡ true)
   discard_here_next (Genesis header hs) next b p n = absurd next
   discard_here_next (Start header) next b p n = absurd next
   discard_here_next (Discard stamp c) next b p n = discard_discard_here stamp c next b p n
   discard_here_next another next b p n = grind (arith, phases.discard_here b)
 
-  done_prepared_next : (r : Record) → Next K node past r → (b : Batch) → has_done (r ∷ past) b ≡ true → (has_prepare (r ∷ past) b ≡ true) × (has_commit (r ∷ past) b ≡ true)
+  done_prepared_next : (r : Record) → Next K node past r → (b : Batch) → has_done (r ∷ past) b ≡ true
+      → (has_prepare (r ∷ past) b ≡ true) × (has_commit (r ∷ past) b ≡ true)
   done_prepared_next (Genesis header hs) next b h = absurd next
   done_prepared_next (Start header) next b h = absurd next
   done_prepared_next (Done stamp c) next b h = done_done_prepared stamp c next b h

@@ -34,7 +34,8 @@ pub same_compact_is : (a b : Compact) → same_compact a b ≡ true → a ≡ b
 same_compact_is a b h =
     let one : (same_digest a.id b.id ≡ true) × ((same_digests a.inputs b.inputs && same_digests a.outputs b.outputs) ≡ true)
     = and_both (same_digest a.id b.id) (same_digests a.inputs b.inputs && same_digests a.outputs b.outputs) h in
-    let two : (same_digests a.inputs b.inputs ≡ true) × (same_digests a.outputs b.outputs ≡ true) = and_both (same_digests a.inputs b.inputs) (same_digests a.outputs b.outputs) one.1 in
+    let two : (same_digests a.inputs b.inputs ≡ true)
+    × (same_digests a.outputs b.outputs ≡ true) = and_both (same_digests a.inputs b.inputs) (same_digests a.outputs b.outputs) one.1 in
     let i' : a.id ≡ b.id = same_digest_is a.id b.id one.0 in
     let s' : a.inputs ≡ b.inputs = same_digests_is a.inputs b.inputs two.0 in
     let o' : a.outputs ≡ b.outputs = same_digests_is a.outputs b.outputs two.1 in

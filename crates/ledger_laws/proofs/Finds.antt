@@ -1,5 +1,6 @@
 -- A record found in a beginning of a journal is found in the whole of it; what was caused by beginnings is caused by the whole.
-use Rattle.std.proofs.Common.{◌≡◌, ◌⊎◌, inl, inr, ℕ, ◌+◌, ◌<◌, ◌/◌, true, false, ◌&&◌, ◌==◌, List, [], ◌∷◌, ◌++◌, Some, is_some, refl, sym, ap, ◌∙◌, subst, arith, append_assoc}
+use Rattle.std.proofs.Common.{◌≡◌, ◌⊎◌, inl, inr, ℕ, ◌+◌, ◌<◌, ◌/◌, true, false, ◌&&◌, ◌==◌, List, [], ◌∷◌, ◌++◌, Some, is_some, refl, sym, ap, ◌∙◌}
+use Rattle.std.proofs.Common.{subst, arith, append_assoc}
 use Rattle.cbdc_model.specs.Causes.{at_shards, AllHave, IsCaused}
 use Rattle.cbdc_model.specs.History.{first_rows, Minted}
 use Rattle.cbdc_model.specs.Lanes.{IsEnd, first_of}
@@ -15,7 +16,8 @@ use Rattle.ledger_laws.proofs.Dones.{PhaseOk, next_phase}
 use Rattle.ledger_laws.proofs.Rows.{at, away, at_node}
 use Rattle.ledger_laws.proofs.Lookups.{true_false, not_true, none_found}
 use Rattle.ledger_laws.proofs.First.{journal_first, all_first, AllFirst, IsFirst}
-use Rattle.ledger_laws.proofs.Moves.{SameCauses, caused_same, once, locked_before, test_step, not_empty, in_range, split_test, all_structure, all_more}
+use Rattle.ledger_laws.proofs.Moves.{SameCauses, caused_same, once, locked_before, test_step, not_empty, in_range, split_test, all_structure}
+use Rattle.ledger_laws.proofs.Moves.{all_more}
 use Rattle.ledger_laws.proofs.Recovered.{all_phases}
 use Rattle.ledger_laws.proofs.Cuts.{cut}
 pub use Rattle.ledger_laws.proofs.Cuts.{replaced_at, replaced_away}
@@ -33,18 +35,21 @@ pub found_stays : (newer V : List Record) → Once (newer ++ V) → (kind : ℕ)
 found_stays [] V o kind b h = refl
 found_stays (r ∷ newer) V o kind b h =
     let rest : record_of kind V b ≡ record_of kind (newer ++ V) b = found_stays newer V o.1 kind b h in
-    elim ((kind_of r == kind) && is_of b r) as (λ t. ((kind_of r == kind) && is_of b r) ≡ t → record_of kind V b ≡ record_of kind (r ∷ (newer ++ V)) b) [
+    elim ((kind_of r == kind) && is_of b r) as (λ t. ((kind_of r == kind) && is_of b r) ≡ t
+    → record_of kind V b ≡ record_of kind (r ∷ (newer ++ V)) b) [
       | true ↦ λ t. absurd (o.0 kind b t (subst (λ q. is_some q ≡ true) rest h))
       | false ↦ λ t. rest ∙ sym (test_step kind r (newer ++ V) b t)
     ] refl
 
 -- a record that is found stands somewhere
 pub stands : (J : List Record) (kind : ℕ) (b : Batch) → is_some (record_of kind J b) ≡ true
-    → (newer : List Record) × (q : Record) × (rest : List Record) × (J ≡ newer ++ q ∷ rest) × (((kind_of q == kind) && is_of b q) ≡ true) × (record_of kind J b ≡ Some q)
+    → (newer : List Record) × (q : Record) × (rest : List Record) × (J ≡ newer ++ q ∷ rest) × (((kind_of q == kind) && is_of b q) ≡ true)
+    × (record_of kind J b ≡ Some q)
 stands [] kind b h = absurd (let z : false ≡ true = h in cc)
 stands (r ∷ J) kind b h =
     elim ((kind_of r == kind) && is_of b r) as (λ t. ((kind_of r == kind) && is_of b r) ≡ t
-    → (newer : List Record) × (q : Record) × (rest : List Record) × (r ∷ J ≡ newer ++ q ∷ rest) × (((kind_of q == kind) && is_of b q) ≡ true) × (record_of kind (r ∷ J) b ≡ Some q)) [
+    → (newer : List Record) × (q : Record) × (rest : List Record) × (r ∷ J ≡ newer ++ q ∷ rest) × (((kind_of q == kind) && is_of b q) ≡ true)
+    × (record_of kind (r ∷ J) b ≡ Some q)) [
       | true ↦ λ t. ([], r, J, refl, t, found_new kind r J b t)
       | false ↦ λ t.
           let s = stands J kind b (subst (λ q. is_some q ≡ true) (test_step kind r J b t) h) in
@@ -75,7 +80,8 @@ module _ (K : Shape) (minting : Minted) (P : Compact → Type 0) (shards : 0 < K
     oks_of : (n : ℕ) (newer more : List Record) → X n ≡ newer ++ (more ++ first_of K minting n) → Oks (more ++ first_of K minting n)
     oks_of n newer [] e = first_oks n
     oks_of n newer (r ∷ more) e =
-        let below : Oks (more ++ first_of K minting n) = oks_of n (newer ++ r ∷ []) more (e ∙ sym (append_assoc newer (r ∷ []) (more ++ first_of K minting n))) in
+        let below : Oks (more ++ first_of K minting n) =
+        oks_of n (newer ++ r ∷ []) more (e ∙ sym (append_assoc newer (r ∷ []) (more ++ first_of K minting n))) in
         let next : Next K n (more ++ first_of K minting n) r = (kept.each n newer (more ++ first_of K minting n) r e (more, refl)).0 in
         record {
           ok = next_ok K n (more ++ first_of K minting n) below.ok r next;
@@ -90,14 +96,16 @@ module _ (K : Shape) (minting : Minted) (P : Compact → Type 0) (shards : 0 < K
     whole_once : (n : ℕ) → Once (X n)
     whole_once n = (oks_at n [] (X n) refl (kept.begins n)).once
 
-    found_in : (n : ℕ) (V : List Record) (kind : ℕ) (b : Batch) → IsEnd V (X n) → is_some (record_of kind V b) ≡ true → record_of kind V b ≡ record_of kind (X n) b
+    found_in : (n : ℕ) (V : List Record) (kind : ℕ) (b : Batch) → IsEnd V (X n) → is_some (record_of kind V b) ≡ true
+        → record_of kind V b ≡ record_of kind (X n) b
     found_in n V kind b e h = found_stays e.0 V (subst (λ L. Once L) e.1 (whole_once n)) kind b h ∙ ap (λ L. record_of kind L b) (sym e.1)
 
     -- a record that is found stands behind the first ones
     behind : (n : ℕ) (newer rest : List Record) (q : Record) → X n ≡ newer ++ q ∷ rest → (IsFirst q → ⊥) → IsEnd (first_of K minting n) rest
     behind n newer rest q e other = elim (cut (kept.begins n).0 (first_of K minting n) newer rest q (sym (kept.begins n).1 ∙ e)) [
       | inr f ↦ (f.back, f.rest_is)
-      | inl f ↦ absurd (other (in_first (first_of K minting n) f.0 rest q (journal_first n (first_rows K minting) (all_first K minting P shards)) f.1))
+      | inl f ↦ absurd (other (in_first (first_of K minting n) f.0 rest q (journal_first n (first_rows K minting) (all_first K minting P shards))
+          f.1))
     ]
       where
         in_first : (L newer rest : List Record) (q : Record) → AllFirst L → L ≡ newer ++ q ∷ rest → IsFirst q
@@ -106,13 +114,15 @@ module _ (K : Shape) (minting : Minted) (P : Compact → Type 0) (shards : 0 < K
         in_first (p ∷ J) (r ∷ newer) rest q a e = in_first J newer rest q a.1 (let z : p ∷ J ≡ r ∷ (newer ++ q ∷ rest) = e in cc)
 
     module _ (n : ℕ) (rest : List Record) (V : ℕ → List Record) (ends : (m : ℕ) → IsEnd (V m) (X m)) where
-      found_there : (m kind : ℕ) (b : Batch) → is_some (record_of kind (replaced V n rest m) b) ≡ true → record_of kind (replaced V n rest m) b ≡ record_of kind (replaced X n rest m) b
+      found_there : (m kind : ℕ) (b : Batch) → is_some (record_of kind (replaced V n rest m) b) ≡ true
+          → record_of kind (replaced V n rest m) b ≡ record_of kind (replaced X n rest m) b
       found_there m kind b h = elim (at_node n m) [
         | at e ↦ ap (λ L. record_of kind L b) (replaced_at V n rest m e ∙ sym (replaced_at X n rest m e))
         | away e ↦
             let v : replaced V n rest m ≡ V m = replaced_away V n rest m e in
             let x : replaced X n rest m ≡ X m = replaced_away X n rest m e in
-            ap (λ L. record_of kind L b) v ∙ found_in m (V m) kind b (ends m) (subst (λ L. is_some (record_of kind L b) ≡ true) v h) ∙ ap (λ L. record_of kind L b) (sym x)
+            ap (λ L. record_of kind L b) v ∙ found_in m (V m) kind b (ends m) (subst (λ L. is_some (record_of kind L b) ≡ true) v h)
+            ∙ ap (λ L. record_of kind L b) (sym x)
       ]
 
     -- the shard of a Lock of a batch is concerned
@@ -131,7 +141,8 @@ module _ (K : Shape) (minting : Minted) (P : Compact → Type 0) (shards : 0 < K
             let back : IsEnd (first_of K minting (shard_node K s)) rest = behind (shard_node K s) newer rest (Lock stamp c es) e (λ f. f) in
             let f = kept.each (shard_node K s) newer rest (Lock stamp c es) e back in
             let same : c ≡ b = (split_test 2 2 c b t).1 in
-            let apart' : (shard_node K s == c.lane / K.lanes) ≡ false = subst (λ d. (shard_node K s == d.lane / K.lanes) ≡ false) (sym same) (turned (b.lane / K.lanes) (shard_node K s) apart) in
+            let apart' : (shard_node K s == c.lane / K.lanes) ≡ false =
+            subst (λ d. (shard_node K s == d.lane / K.lanes) ≡ false) (sym same) (turned (b.lane / K.lanes) (shard_node K s) apart) in
             let cause : record_of 6 (replaced f.1.lists (shard_node K s) rest (c.lane / K.lanes)) c ≡ record_of 6 (X (c.lane / K.lanes)) c
             = found_there (shard_node K s) rest f.1.lists f.1.ends (c.lane / K.lanes) 6 c f.1.caused.0
             ∙ ap (λ L. record_of 6 L c) (replaced_away X (shard_node K s) rest (c.lane / K.lanes) apart') in
@@ -142,24 +153,32 @@ module _ (K : Shape) (minting : Minted) (P : Compact → Type 0) (shards : 0 < K
         lock_is other newer rest e t = absurd (let z : false ≡ true = t in cc)
 
     -- so is that of any later record of it
-    shard_part : (kind s : ℕ) (b : Batch) → IsShardKind kind → (b.lane / K.lanes == shard_node K s) ≡ false → is_some (record_of kind (X (shard_node K s)) b) ≡ true
+    shard_part : (kind s : ℕ) (b : Batch) → IsShardKind kind → (b.lane / K.lanes == shard_node K s) ≡ false
+        → is_some (record_of kind (X (shard_node K s)) b) ≡ true
         → Concerned K (txs_in (record_of 6 (X (b.lane / K.lanes)) b)) s
     shard_part kind s b (inl two) apart h = lock_part s b apart (subst (λ k. is_some (record_of k (X (shard_node K s)) b) ≡ true) two h)
     shard_part kind s b (inr later) apart h =
         let q = stands (X (shard_node K s)) kind b h in
-        let back : IsEnd (first_of K minting (shard_node K s)) q.2 = behind (shard_node K s) q.0 q.2 q.1 q.3 (λ first. not_of_first q.1 b first (test_batch kind b q.1 q.4)) in
+        let back : IsEnd (first_of K minting (shard_node K s)) q.2 =
+        behind (shard_node K s) q.0 q.2 q.1 q.3 (λ first. not_of_first q.1 b first (test_batch kind b q.1 q.4)) in
         let oks : Oks q.2 = oks_at (shard_node K s) (q.0 ++ q.1 ∷ []) q.2 (q.3 ∙ sym (append_assoc q.0 (q.1 ∷ []) q.2)) back in
-        let locked : has_lock q.2 b ≡ true = locked_before K (shard_node K s) q.2 oks.ok oks.more q.1 (kept.each (shard_node K s) q.0 q.2 q.1 q.3 back).0 kind b q.4 later in
-        lock_part s b apart (subst (λ o. is_some o ≡ true) (found_in (shard_node K s) q.2 2 b (q.0 ++ q.1 ∷ [], q.3 ∙ sym (append_assoc q.0 (q.1 ∷ []) q.2)) locked) locked)
+        let locked : has_lock q.2 b ≡ true = locked_before K (shard_node K s) q.2 oks.ok oks.more q.1
+        (kept.each (shard_node K s) q.0 q.2 q.1 q.3 back).0 kind b q.4 later in
+        lock_part s b apart (subst (λ o. is_some o ≡ true)
+        (found_in (shard_node K s) q.2 2 b (q.0 ++ q.1 ∷ [], q.3 ∙ sym (append_assoc q.0 (q.1 ∷ []) q.2)) locked) locked)
 
     -- what was caused by beginnings of the journals is caused by the journals
-    module _ (n : ℕ) (rest : List Record) (r : Record) (rest_end : IsEnd rest (X n)) (back : IsEnd (first_of K minting n) rest) (V : ℕ → List Record) (ends : (m : ℕ) → IsEnd (V m) (X m)) where
+    module _ (n : ℕ) (rest : List Record) (r : Record) (rest_end : IsEnd rest (X n)) (back : IsEnd (first_of K minting n) rest) (V : ℕ → List Record)
+        (ends : (m : ℕ) → IsEnd (V m) (X m)) where
       same_at : (kind : ℕ) → IsShardKind kind → (b : Batch) → n < K.coordinators → n ≡ b.lane / K.lanes → has_prepare rest b ≡ true
           → AllHave K (replaced V n rest) kind b → (s : ℕ) → at_shards K (replaced V n rest) kind b s ≡ at_shards K (replaced X n rest) kind b s
       same_at kind which b low home prepared all s =
-          elim (is_some (at_shards K (replaced V n rest) kind b s)) as (λ t. is_some (at_shards K (replaced V n rest) kind b s) ≡ t → at_shards K (replaced V n rest) kind b s ≡ at_shards K (replaced X n rest) kind b s) [
+          elim (is_some (at_shards K (replaced V n rest) kind b s)) as
+          (λ t. is_some (at_shards K (replaced V n rest) kind b s) ≡ t
+          → at_shards K (replaced V n rest) kind b s ≡ at_shards K (replaced X n rest) kind b s) [
             | true ↦ λ t. found_there n rest V ends (shard_node K s) kind b t
-            | false ↦ λ t. none_found (at_shards K (replaced V n rest) kind b s) t ∙ sym (none_found (at_shards K (replaced X n rest) kind b s) (not_true _ (none_there t)))
+            | false ↦ λ t. none_found (at_shards K (replaced V n rest) kind b s) t
+                ∙ sym (none_found (at_shards K (replaced X n rest) kind b s) (not_true _ (none_there t)))
           ] refl
         where
           apart_from : (n s : ℕ) → n < K.coordinators → (n == K.coordinators + s) ≡ false
@@ -169,9 +188,11 @@ module _ (K : Shape) (minting : Minted) (P : Compact → Type 0) (shards : 0 < K
           none_there t h =
               let away : replaced X n rest (shard_node K s) ≡ X (shard_node K s) = replaced_away X n rest (shard_node K s) (apart_from n s low) in
               let c : Concerned K (txs_in (record_of 6 (X (b.lane / K.lanes)) b)) s
-              = shard_part kind s b which (subst (λ m. (m == shard_node K s) ≡ false) home (apart_from n s low)) (subst (λ L. is_some (record_of kind L b) ≡ true) away h) in
+              = shard_part kind s b which (subst (λ m. (m == shard_node K s) ≡ false) home (apart_from n s low))
+              (subst (λ L. is_some (record_of kind L b) ≡ true) away h) in
               let here : record_of 6 (X (b.lane / K.lanes)) b ≡ record_of 6 (replaced V n rest (b.lane / K.lanes)) b
-              = ap (λ m. record_of 6 (X m) b) (sym home) ∙ sym (found_in n rest 6 b rest_end prepared) ∙ ap (λ L. record_of 6 L b) (sym (replaced_at V n rest (b.lane / K.lanes) home)) in
+              = ap (λ m. record_of 6 (X m) b) (sym home) ∙ sym (found_in n rest 6 b rest_end prepared)
+              ∙ ap (λ L. record_of 6 L b) (sym (replaced_at V n rest (b.lane / K.lanes) home)) in
               true_false _ (all s (subst (λ o. Concerned K (txs_in o) s) here c)) t
 
       causes_same : (q : Record) → Next K n rest q → IsCaused K (replaced V n rest) n q → SameCauses K (replaced V n rest) (replaced X n rest) q

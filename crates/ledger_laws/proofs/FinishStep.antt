@@ -39,8 +39,10 @@ pub record Finishes (v w : View) (b : Batch) : Type 0 where
 -- what the Finish did at the hash
 data Did (v w : View) (b : Batch) (x : Digest) : Type 0 where
   came : v.arrived x ≡ 0 → v.spent x ≡ 0 → w.status x ≡ Unspent → w.arrived x ≡ 1 → (0 < v.makes b x) → w.finished b x ≡ true → Did v w b x
-  returned : v.status x ≡ Locked b → v.arrived x ≡ 1 → v.spent x ≡ 0 → w.status x ≡ Unspent → w.arrived x ≡ 1 → v.makes b x ≡ 0 → w.finished b x ≡ true → Did v w b x
-  went : v.status x ≡ Locked b → v.arrived x ≡ 1 → v.spent x ≡ 1 → w.status x ≡ Absent → w.arrived x ≡ 1 → v.makes b x ≡ 0 → w.finished b x ≡ true → Did v w b x
+  returned : v.status x ≡ Locked b → v.arrived x ≡ 1 → v.spent x ≡ 0 → w.status x ≡ Unspent → w.arrived x ≡ 1 → v.makes b x ≡ 0
+      → w.finished b x ≡ true → Did v w b x
+  went : v.status x ≡ Locked b → v.arrived x ≡ 1 → v.spent x ≡ 1 → w.status x ≡ Absent → w.arrived x ≡ 1 → v.makes b x ≡ 0 → w.finished b x ≡ true
+      → Did v w b x
   nothing : w.status x ≡ v.status x → w.arrived x ≡ v.arrived x → (v.status x ≡ Locked b → ⊥) → v.makes b x ≡ 0 → w.finished b x ≡ true → Did v w b x
   away : SameAt v w x → Did v w b x
 
@@ -49,18 +51,22 @@ module _ {genesis : Digest → ℕ} {P : Compact → Type 0} {v w : View} (inv :
   did_here x m r t f = elim (none_or_some m) [
     | some k ↦
         let a : v.arrived x ≡ 0 = inv.pending x b (omega (arith, f.makes_is)) f.unfinished in
-        came a (omega (arith, inv.spent_le x)) (f.to_made k) (omega (arith, f.arrived, f.makes_is, inv.makes_le x b, inv.made_once x)) (omega (arith, f.makes_is)) f.finished
+        came a (omega (arith, inv.spent_le x)) (f.to_made k) (omega (arith, f.arrived, f.makes_is, inv.makes_le x b, inv.made_once x))
+        (omega (arith, f.makes_is)) f.finished
     | none z ↦ elim (none_or_some r) [
       | some k ↦
           let is : v.status x ≡ Locked b = inv.held x b (omega (arith, f.holds_is)) f.unfinished in
           let h : (v.arrived x ≡ 1) × (v.finished b x ≡ false) × (v.spent x ≡ v.takes b x) × (0 < v.holds b x) = inv.locked x b is in
-          returned is h.0 (omega (arith, h.2, f.takes_is, f.holds_is, inv.held_once x b)) (f.to_returned z k) (omega (arith, h.0, f.arrived)) (omega (arith, f.makes_is)) f.finished
+          returned is h.0 (omega (arith, h.2, f.takes_is, f.holds_is, inv.held_once x b)) (f.to_returned z k) (omega (arith, h.0, f.arrived))
+          (omega (arith, f.makes_is)) f.finished
       | none y ↦ elim (none_or_some t) [
         | some k ↦
             let is : v.status x ≡ Locked b = inv.held x b (omega (arith, f.holds_is)) f.unfinished in
             let h : (v.arrived x ≡ 1) × (v.finished b x ≡ false) × (v.spent x ≡ v.takes b x) × (0 < v.holds b x) = inv.locked x b is in
-            went is h.0 (omega (arith, h.2, f.takes_is, f.holds_is, inv.held_once x b)) (f.to_taken z y k) (omega (arith, h.0, f.arrived)) (omega (arith, f.makes_is)) f.finished
-        | none u ↦ nothing (f.untouched z y u) (omega (arith, f.arrived)) (λ is. omega (arith, (inv.locked x b is).3, f.holds_is)) (omega (arith, f.makes_is)) f.finished
+            went is h.0 (omega (arith, h.2, f.takes_is, f.holds_is, inv.held_once x b)) (f.to_taken z y k) (omega (arith, h.0, f.arrived))
+            (omega (arith, f.makes_is)) f.finished
+        | none u ↦ nothing (f.untouched z y u) (omega (arith, f.arrived)) (λ is. omega (arith, (inv.locked x b is).3, f.holds_is))
+            (omega (arith, f.makes_is)) f.finished
       ]
     ]
   ]

@@ -1,5 +1,6 @@
 -- The first rows have the invariant.
-use Rattle.std.proofs.Common.{◌≡◌, ◌⊎◌, inl, inr, ℕ, zero, suc, ◌+◌, ◌<◌, ◌≤◌, ◌/◌, true, false, ◌==◌, if◌then◌else◌, List, [], ◌∷◌, ◌++◌, refl, sym, ap, ◌∙◌, subst, arith}
+use Rattle.std.proofs.Common.{◌≡◌, ◌⊎◌, inl, inr, ℕ, zero, suc, ◌+◌, ◌<◌, ◌≤◌, ◌/◌, true, false, ◌==◌, if◌then◌else◌, List, [], ◌∷◌, ◌++◌, refl, sym}
+use Rattle.std.proofs.Common.{ap, ◌∙◌, subst, arith}
 pub use Rattle.cbdc_model.specs.After.{IsFirst}
 use Rattle.cbdc_model.specs.History.{header_of, won_of, committed, all_inputs, all_outputs, starts, geneses, first_rows, Minted}
 use Rattle.cbdc_model.specs.Outcomes.{won_txs}
@@ -34,13 +35,40 @@ pub record Nothing (J : List Record) : Type 0 where
   pub phase : (lane : ℕ) → (slot J lane).phase ≡ Idle
 
 pub nothing : (J : List Record) → AllFirst J → Nothing J
-nothing [] h = record { lock = λ b. refl; finish = λ b. refl; prepare = λ b. refl; commit = λ b. refl; locks = λ b. refl; txs = λ b. refl; outcomes = λ b. refl; phase = λ b. refl }
+nothing [] h = record {
+  lock = λ b. refl;
+  finish = λ b. refl;
+  prepare = λ b. refl;
+  commit = λ b. refl;
+  locks = λ b. refl;
+  txs = λ b. refl;
+  outcomes = λ b. refl;
+  phase = λ b. refl;
+}
 nothing (Genesis header hs ∷ J) h =
     let n : Nothing J = nothing J h.1 in
-    record { lock = n.lock; finish = n.finish; prepare = n.prepare; commit = n.commit; locks = n.locks; txs = n.txs; outcomes = n.outcomes; phase = n.phase }
+    record {
+      lock = n.lock;
+      finish = n.finish;
+      prepare = n.prepare;
+      commit = n.commit;
+      locks = n.locks;
+      txs = n.txs;
+      outcomes = n.outcomes;
+      phase = n.phase;
+    }
 nothing (Start header ∷ J) h =
     let n : Nothing J = nothing J h.1 in
-    record { lock = n.lock; finish = n.finish; prepare = n.prepare; commit = n.commit; locks = n.locks; txs = n.txs; outcomes = n.outcomes; phase = n.phase }
+    record {
+      lock = n.lock;
+      finish = n.finish;
+      prepare = n.prepare;
+      commit = n.commit;
+      locks = n.locks;
+      txs = n.txs;
+      outcomes = n.outcomes;
+      phase = n.phase;
+    }
 nothing (other ∷ J) h = absurd h.0
 
 pub journal_first : (n : ℕ) (rows : List Row) → RowsFirst rows → AllFirst (journal n rows)
@@ -69,7 +97,8 @@ no_committed (row ∷ rows) h = first_row row rows h.0 (no_committed rows h.1)
     first_row : (row : Row) (rows : List Row) → IsFirst row.what → committed rows ≡ [] → committed (row ∷ rows) ≡ []
     first_row row rows first e = of_record row.node row.what rows first e
       where
-        of_record : (node : ℕ) (r : Record) (rows : List Row) → IsFirst r → committed rows ≡ [] → committed (record { node = node; what = r } ∷ rows) ≡ []
+        of_record : (node : ℕ) (r : Record) (rows : List Row) → IsFirst r → committed rows ≡ []
+            → committed (record { node = node; what = r } ∷ rows) ≡ []
         of_record node (Genesis header hs) rows first e = rw e
         of_record node (Start header) rows first e = rw e
         of_record node other rows first e = absurd first
@@ -82,36 +111,45 @@ journal_starts K minting n (suc m) h = skipped K minting n m (journal_starts K m
     skipped : (K : Shape) (minting : Minted) (n m : ℕ) → journal n (starts K minting m) ≡ [] → suc m ≤ n → journal n (starts K minting (suc m)) ≡ []
     skipped K minting n m e h = grind arith
 
-pub journal_past : (K : Shape) (minting : Minted) (s m : ℕ) → m ≤ s → journal (shard_node K s) (geneses K minting m ++ starts K minting K.coordinators) ≡ []
+pub journal_past : (K : Shape) (minting : Minted) (s m : ℕ) → m ≤ s
+    → journal (shard_node K s) (geneses K minting m ++ starts K minting K.coordinators) ≡ []
 journal_past K minting s zero h = journal_starts K minting (shard_node K s) K.coordinators (omega arith)
 journal_past K minting s (suc m) h = skipped K minting s m (journal_past K minting s m (omega arith)) h
   where
-    skipped : (K : Shape) (minting : Minted) (s m : ℕ) → journal (shard_node K s) (geneses K minting m ++ starts K minting K.coordinators) ≡ [] → suc m ≤ s
+    skipped : (K : Shape) (minting : Minted) (s m : ℕ) → journal (shard_node K s) (geneses K minting m ++ starts K minting K.coordinators) ≡ []
+        → suc m ≤ s
         → journal (shard_node K s) (geneses K minting (suc m) ++ starts K minting K.coordinators) ≡ []
     skipped K minting s m e h = grind arith
 
 pub journal_genesis : (K : Shape) (minting : Minted) (s m : ℕ) → s < m
-    → journal (shard_node K s) (geneses K minting m ++ starts K minting K.coordinators) ≡ Genesis (header_of K minting.id (shard_node K s)) (on_shard K.shards s minting.hashes) ∷ []
+    → journal (shard_node K s) (geneses K minting m ++ starts K minting K.coordinators)
+    ≡ Genesis (header_of K minting.id (shard_node K s)) (on_shard K.shards s minting.hashes) ∷ []
 journal_genesis K minting s zero h = absurd (omega arith)
 journal_genesis K minting s (suc m) h =
     let cases : (s ≡ m) ⊎ (s < m) = grind arith in
     elim cases [
-      | inl e ↦ subst (λ k. journal (shard_node K s) (geneses K minting (suc k) ++ starts K minting K.coordinators) ≡ Genesis (header_of K minting.id (shard_node K s)) (on_shard K.shards s minting.hashes) ∷ []) e
+      | inl e ↦ subst (λ k. journal (shard_node K s) (geneses K minting (suc k) ++ starts K minting K.coordinators)
+          ≡ Genesis (header_of K minting.id (shard_node K s)) (on_shard K.shards s minting.hashes) ∷ []) e
           (first K minting s (journal_past K minting s s (omega arith)))
       | inr lt ↦ later K minting s m lt (journal_genesis K minting s m lt)
     ]
   where
     first : (K : Shape) (minting : Minted) (s : ℕ) → journal (shard_node K s) (geneses K minting s ++ starts K minting K.coordinators) ≡ []
-        → journal (shard_node K s) (geneses K minting (suc s) ++ starts K minting K.coordinators) ≡ Genesis (header_of K minting.id (shard_node K s)) (on_shard K.shards s minting.hashes) ∷ []
+        → journal (shard_node K s) (geneses K minting (suc s) ++ starts K minting K.coordinators)
+        ≡ Genesis (header_of K minting.id (shard_node K s)) (on_shard K.shards s minting.hashes) ∷ []
     first K minting s e = grind arith
 
-    later : (K : Shape) (minting : Minted) (s m : ℕ) → s < m → journal (shard_node K s) (geneses K minting m ++ starts K minting K.coordinators) ≡ Genesis (header_of K minting.id (shard_node K s)) (on_shard K.shards s minting.hashes) ∷ []
-        → journal (shard_node K s) (geneses K minting (suc m) ++ starts K minting K.coordinators) ≡ Genesis (header_of K minting.id (shard_node K s)) (on_shard K.shards s minting.hashes) ∷ []
+    later : (K : Shape) (minting : Minted) (s m : ℕ) → s < m
+        → journal (shard_node K s) (geneses K minting m ++ starts K minting K.coordinators)
+        ≡ Genesis (header_of K minting.id (shard_node K s)) (on_shard K.shards s minting.hashes) ∷ []
+        → journal (shard_node K s) (geneses K minting (suc m) ++ starts K minting K.coordinators)
+        ≡ Genesis (header_of K minting.id (shard_node K s)) (on_shard K.shards s minting.hashes) ∷ []
     later K minting s m lt e = grind arith
 
 module _ (K : Shape) (minting : Minted) (P : Compact → Type 0) (shards : 0 < K.shards) where
   pub all_first : RowsFirst (first_rows K minting)
-  all_first = rows_first-append (geneses K minting K.shards) (starts K minting K.coordinators) (geneses_first K minting K.shards) (starts_first K minting K.coordinators)
+  all_first = rows_first-append (geneses K minting K.shards) (starts K minting K.coordinators) (geneses_first K minting K.shards)
+      (starts_first K minting K.coordinators)
 
   pub none_at : (n : ℕ) → Nothing (journal n (first_rows K minting))
   none_at n = nothing (journal n (first_rows K minting)) (journal_first n (first_rows K minting) all_first)
@@ -132,31 +170,45 @@ module _ (K : Shape) (minting : Minted) (P : Compact → Type 0) (shards : 0 < K
     proper = λ b. subst (λ ts. Each P ts) (sym ((none_at (b.lane / K.lanes)).txs b)) tt;
   }
 
-  genesis_at : (x : Digest) → journal_at K (first_rows K minting) x ≡ Genesis (header_of K minting.id (shard_node K (shard_of K.shards x))) (on_shard K.shards (shard_of K.shards x) minting.hashes) ∷ []
+  genesis_at : (x : Digest) → journal_at K (first_rows K minting) x
+      ≡ Genesis (header_of K minting.id (shard_node K (shard_of K.shards x))) (on_shard K.shards (shard_of K.shards x) minting.hashes) ∷ []
   genesis_at x = journal_genesis K minting (shard_of K.shards x) K.shards (shard_of-lt K.shards x shards)
 
   first_arrived : (x : Digest) → arrived (journal_at K (first_rows K minting) x) x ≡ count x minting.hashes
-  first_arrived x = ap (λ J. arrived J x) (genesis_at x) ∙ (let e : count x (on_shard K.shards (shard_of K.shards x) minting.hashes) + 0 ≡ count x minting.hashes = omega (arith, count-on_shard K.shards x minting.hashes) in e)
+  first_arrived x = ap (λ J. arrived J x) (genesis_at x)
+      ∙ (let e : count x (on_shard K.shards (shard_of K.shards x) minting.hashes) + 0 ≡ count x minting.hashes =
+      omega (arith, count-on_shard K.shards x minting.hashes) in e)
 
   module _ (x : Digest) where
     there : List Digest
     there = on_shard K.shards (shard_of K.shards x) minting.hashes
 
-    first_status : status (journal_at K (first_rows K minting) x) x ≡ (if has (on_shard K.shards (shard_of K.shards x) minting.hashes) x then Unspent else Absent)
+    first_status : status (journal_at K (first_rows K minting) x) x
+        ≡ (if has (on_shard K.shards (shard_of K.shards x) minting.hashes) x then Unspent else Absent)
     first_status = ap (λ J. status J x) (genesis_at x)
 
     has_it : status (journal_at K (first_rows K minting) x) x ≡ Unspent → 0 < count x minting.hashes
-    has_it e = elim (has (on_shard K.shards (shard_of K.shards x) minting.hashes) x) as (λ c. has (on_shard K.shards (shard_of K.shards x) minting.hashes) x ≡ c
+    has_it e = elim (has (on_shard K.shards (shard_of K.shards x) minting.hashes) x) as
+        (λ c. has (on_shard K.shards (shard_of K.shards x) minting.hashes) x ≡ c
         → Unspent ≡ (if c then Unspent else Absent) → 0 < count x minting.hashes) [
-          | true ↦ λ h _. omega (arith, has-count x (on_shard K.shards (shard_of K.shards x) minting.hashes) h, count-on_shard K.shards x minting.hashes)
+          | true ↦ λ h _. omega (
+            arith,
+            has-count x (on_shard K.shards (shard_of K.shards x) minting.hashes) h,
+            count-on_shard K.shards x minting.hashes,
+          )
           | false ↦ λ h q. absurd (let r : Unspent ≡ Absent = q in cc)
         ] refl (sym e ∙ first_status)
 
     has_none : status (journal_at K (first_rows K minting) x) x ≡ Absent → count x minting.hashes ≡ 0
-    has_none e = elim (has (on_shard K.shards (shard_of K.shards x) minting.hashes) x) as (λ c. has (on_shard K.shards (shard_of K.shards x) minting.hashes) x ≡ c
+    has_none e = elim (has (on_shard K.shards (shard_of K.shards x) minting.hashes) x) as
+        (λ c. has (on_shard K.shards (shard_of K.shards x) minting.hashes) x ≡ c
         → Absent ≡ (if c then Unspent else Absent) → count x minting.hashes ≡ 0) [
           | true ↦ λ h q. absurd (let r : Absent ≡ Unspent = q in cc)
-          | false ↦ λ h _. omega (arith, not_has-count x (on_shard K.shards (shard_of K.shards x) minting.hashes) h, count-on_shard K.shards x minting.hashes)
+          | false ↦ λ h _. omega (
+            arith,
+            not_has-count x (on_shard K.shards (shard_of K.shards x) minting.hashes) h,
+            count-on_shard K.shards x minting.hashes,
+          )
         ] refl (sym e ∙ first_status)
 
     not_locked : (b : Batch) → status (journal_at K (first_rows K minting) x) x ≡ Locked b → ⊥
@@ -170,11 +222,14 @@ module _ (K : Shape) (minting : Minted) (P : Compact → Type 0) (shards : 0 < K
       let none : committed (first_rows K minting) ≡ [] = no_committed (first_rows K minting) all_first in
       let spent : (x : Digest) → count x (all_inputs (committed (first_rows K minting))) ≡ 0 = λ x. ap (λ ts. count x (all_inputs ts)) none in
       let made : (x : Digest) → count x (all_outputs (committed (first_rows K minting))) ≡ 0 = λ x. ap (λ ts. count x (all_outputs ts)) none in
-      let won : (b : Batch) → won_of K (first_rows K minting) b ≡ [] = λ b. ap (λ ts. won_txs ts (outcomes_of (lane_journal K (first_rows K minting) b) b)) ((none_at (b.lane / K.lanes)).txs b) in
+      let won : (b : Batch) → won_of K (first_rows K minting) b ≡ [] =
+      λ b. ap (λ ts. won_txs ts (outcomes_of (lane_journal K (first_rows K minting) b) b)) ((none_at (b.lane / K.lanes)).txs b) in
       let holds : (x : Digest) (b : Batch) → count x (held_inputs (lock_of (journal_at K (first_rows K minting) x) b)) ≡ 0
       = λ x b. ap (λ a. count x (held_inputs a)) ((none_at (shard_node K (shard_of K.shards x))).locks b) in
-      let makes : (x : Digest) (b : Batch) → count x (all_outputs (won_of K (first_rows K minting) b)) ≡ 0 = λ x b. ap (λ ts. count x (all_outputs ts)) (won b) in
-      let takes : (x : Digest) (b : Batch) → count x (all_inputs (won_of K (first_rows K minting) b)) ≡ 0 = λ x b. ap (λ ts. count x (all_inputs ts)) (won b) in
+      let makes : (x : Digest) (b : Batch) → count x (all_outputs (won_of K (first_rows K minting) b)) ≡ 0 =
+      λ x b. ap (λ ts. count x (all_outputs ts)) (won b) in
+      let takes : (x : Digest) (b : Batch) → count x (all_inputs (won_of K (first_rows K minting) b)) ≡ 0 =
+      λ x b. ap (λ ts. count x (all_inputs ts)) (won b) in
       record {
         unspent = λ x e. (omega (arith, first_arrived x, has_it x e, apart.genesis_once x), spent x);
         locked = λ x b e. absurd (not_locked x b e);

@@ -7,7 +7,8 @@ use Rattle.cbdc_model.specs.Coins.{Output, FullTx}
 use Rattle.cbdc_model.specs.Clean.{IsProperCompact}
 use Rattle.cbdc_model.specs.History.{Minted, minted, header_of, first_rows}
 use Rattle.cbdc_model.specs.After.{After}
-use Rattle.cbdc_model.specs.World.{World, Node, Event, Begin, End, Crash, Reopen, Repeat, node_at, no_node, journals, init, first_node, Step, Run, effect, KeptWorld}
+use Rattle.cbdc_model.specs.World.{World, Node, Event, Begin, End, Crash, Reopen, Repeat, node_at, no_node, journals, init, first_node, Step, Run}
+use Rattle.cbdc_model.specs.World.{effect, KeptWorld}
 use Rattle.ledger_laws.proofs.FirstJournals.{first_is, first_beyond}
 use Rattle.ledger_laws.proofs.Next.{Next}
 use Rattle.ledger_laws.proofs.Ledger.{SteadyWorld, steady, is_steady, next_at, after_of, proper_of, passes_of}
@@ -17,7 +18,9 @@ module _ (K : Shape) (minting : Minted) (P : Compact → Type 0) where
   init_at n lt = get_or-map-range_with_len (first_node K minting) 0 (K.coordinators + K.shards) n n no_node lt (omega arith)
 
   pub init_beyond : (n : ℕ) → K.coordinators + K.shards ≤ n → node_at (init K minting) n ≡ no_node
-  init_beyond n le = get_or_past (init K minting) n no_node (let l : length (init K minting) ≡ K.coordinators + K.shards = length-map-range_with_len (first_node K minting) 0 (K.coordinators + K.shards) in omega arith)
+  init_beyond n le = get_or_past (init K minting) n no_node
+      (let l : length (init K minting) ≡ K.coordinators + K.shards = length-map-range_with_len (first_node K minting) 0 (K.coordinators + K.shards)
+      in omega arith)
 
   pub in_or_beyond : (n m : ℕ) → (n < m) ⊎ (m ≤ n)
   in_or_beyond n m = grind arith
@@ -59,7 +62,8 @@ run_length K minting old new [] run = ap length run
 run_length K minting old new (e ∷ es) run = run_length K minting run.0 new es run.2 ∙ step_length K minting old run.0 e run.1
 
 -- between the world as it is defined and as the proofs read it
-pub to_steady : (K : Shape) (mint : List Output) (txs : List FullTx) (w : World) → KeptWorld K mint txs w → SteadyWorld K (minted mint) (IsProperCompact txs) w
+pub to_steady : (K : Shape) (mint : List Output) (txs : List FullTx) (w : World) → KeptWorld K mint txs w
+    → SteadyWorld K (minted mint) (IsProperCompact txs) w
 to_steady K mint txs w kept =
     let k = kept.journals_kept in
     record {
@@ -70,7 +74,8 @@ to_steady K mint txs w kept =
       flights = λ n r f.
           let h = kept.flights n r f in (
             subst (λ J. Next K n J r) (k.history.journals_are n)
-                (next_at K (minted mint) (IsProperCompact txs) k.later n r (subst (λ J. After (header_of K (minted mint).id n) J r) (sym (k.history.journals_are n)) h.0)),
+                (next_at K (minted mint) (IsProperCompact txs) k.later n r
+                (subst (λ J. After (header_of K (minted mint).id n) J r) (sym (k.history.journals_are n)) h.0)),
             h.1,
             proper_of (IsProperCompact txs) r h.2,
             h.0.0,

@@ -1,5 +1,6 @@
 -- What recovery writes may stand in the journals: the entries and replies of a part, and the outcomes by answered parts.
-use Rattle.std.proofs.Common.{◌≡◌, ℕ, zero, suc, ◌+◌, ◌<◌, ◌≤◌, Bool, true, false, ◌&&◌, ◌==◌, if◌then◌else◌, List, [], ◌∷◌, ◌++◌, length, Option, Some, None, refl, ap, arith}
+use Rattle.std.proofs.Common.{◌≡◌, ℕ, zero, suc, ◌+◌, ◌<◌, ◌≤◌, Bool, true, false, ◌&&◌, ◌==◌, if◌then◌else◌, List, [], ◌∷◌, ◌++◌, length, Option}
+use Rattle.std.proofs.Common.{Some, None, refl, ap, arith}
 use Rattle.std.specs.List.{AllByRecursion}
 use Rattle.std.proofs.lemmas.List.Elements.{All-from_recursion, recursion_from_All}
 use Rattle.cbdc_model.specs.Records.{Digest, Shape, Batch, Compact, Reply, Outcome, Answered, Record, is_held, Held, Missing, Taken}
@@ -13,17 +14,19 @@ use Rattle.ledger_laws.proofs.Lookups.{number_is}
 -- the hashes of a list that lie on a shard
 on_length : (shards s : ℕ) (xs : List Digest) → length (on_shard shards s xs) ≤ length xs
 on_length shards s [] = omega arith
-on_length shards s (x ∷ xs) = elim (shard_of shards x == s) as (λ c. length (if c then x ∷ on_shard shards s xs else on_shard shards s xs) ≤ length (x ∷ xs)) [
-  | true ↦ omega (arith, on_length shards s xs)
-  | false ↦ omega (arith, on_length shards s xs)
-]
+on_length shards s (x ∷ xs) = elim (shard_of shards x == s) as
+    (λ c. length (if c then x ∷ on_shard shards s xs else on_shard shards s xs) ≤ length (x ∷ xs)) [
+      | true ↦ omega (arith, on_length shards s xs)
+      | false ↦ omega (arith, on_length shards s xs)
+    ]
 
 on_all : (Q : Digest → Type 0) (shards s : ℕ) (xs : List Digest) → AllByRecursion Q xs → AllByRecursion Q (on_shard shards s xs)
 on_all Q shards s [] h = tt
-on_all Q shards s (x ∷ xs) h = elim (shard_of shards x == s) as (λ c. AllByRecursion Q (if c then x ∷ on_shard shards s xs else on_shard shards s xs)) [
-  | true ↦ (h.0, on_all Q shards s xs h.1)
-  | false ↦ on_all Q shards s xs h.1
-]
+on_all Q shards s (x ∷ xs) h = elim (shard_of shards x == s) as
+    (λ c. AllByRecursion Q (if c then x ∷ on_shard shards s xs else on_shard shards s xs)) [
+      | true ↦ (h.0, on_all Q shards s xs h.1)
+      | false ↦ on_all Q shards s xs h.1
+    ]
 
 on_here : (K : Shape) (s : ℕ) (xs : List Digest) → AllByRecursion (λ x. shard_node K (shard_of K.shards x) ≡ shard_node K s) (on_shard K.shards s xs)
 on_here K s [] = tt
@@ -34,8 +37,10 @@ on_here K s (x ∷ xs) = elim (shard_of K.shards x == s) as (λ c. (shard_of K.s
     ] refl
 
 hash_list : (shards s : ℕ) (xs : List Digest) → IsHashList xs → IsHashList (on_shard shards s xs)
-hash_list shards s xs h =
-    (omega (arith, on_length shards s xs, h.0), All-from_recursion IsHash (on_shard shards s xs) (on_all IsHash shards s xs (recursion_from_All IsHash xs h.1)))
+hash_list shards s xs h = (
+  omega (arith, on_length shards s xs, h.0),
+  All-from_recursion IsHash (on_shard shards s xs) (on_all IsHash shards s xs (recursion_from_All IsHash xs h.1)),
+)
 
 some_hash : (xs ys : List Digest) → (is_empty xs && is_empty ys) ≡ false → 1 ≤ length xs + length ys
 some_hash [] [] e = absurd (let z : true ≡ false = e in cc)
@@ -46,7 +51,8 @@ rises_lower : (m n limit : ℕ) (es : List Answered) → m ≤ n → RisesFrom n
 rises_lower m n limit [] le h = tt
 rises_lower m n limit (a ∷ es) le h = (omega (arith, h.0), h.1, h.2)
 
-refused : (K : Shape) (b : Batch) → IsBatchOf K b → (s : Status) (x : Digest) (claimed : Bool) (rest : Reply) → IsHash x → ((by : Batch) → s ≡ Locked by → IsBatchOf K by)
+refused : (K : Shape) (b : Batch) → IsBatchOf K b → (s : Status) (x : Digest) (claimed : Bool) (rest : Reply) → IsHash x
+    → ((by : Batch) → s ≡ Locked by → IsBatchOf K by)
     → IsReply K rest → IsReply K (first_reply (refusal s x claimed b) rest)
 refused K b hb Unspent x true rest h f r = (h, hb)
 refused K b hb Unspent x false rest h f r = r
@@ -54,12 +60,15 @@ refused K b hb (Locked by) x claimed rest h f r = (h, f by refl)
 refused K b hb Absent x claimed rest h f r = h
 
 -- a part's entries, as a shard answers them
-module _ (K : Shape) (s : ℕ) (J : List Record) (b : Batch) (of_shape : IsBatchOf K b) (holders : (x : Digest) (by : Batch) → status J x ≡ Locked by → IsBatchOf K by) where
+module _ (K : Shape) (s : ℕ) (J : List Record) (b : Batch) (of_shape : IsBatchOf K b)
+    (holders : (x : Digest) (by : Batch) → status J x ≡ Locked by → IsBatchOf K by) where
   reply_fits : (claimed xs : List Digest) → AllByRecursion IsHash xs → IsReply K (reply_to J b claimed xs)
   reply_fits claimed [] h = tt
-  reply_fits claimed (x ∷ xs) h = refused K b of_shape (status J x) x (has claimed x) (reply_to J b claimed xs) h.0 (λ by e. holders x by e) (reply_fits claimed xs h.1)
+  reply_fits claimed (x ∷ xs) h = refused K b of_shape (status J x) x (has claimed x) (reply_to J b claimed xs) h.0 (λ by e. holders x by e)
+      (reply_fits claimed xs h.1)
 
-  entry_fits : (k : ℕ) (t : Compact) (r : Reply) → IsCompact t → (is_empty (on_shard K.shards s t.inputs) && is_empty (on_shard K.shards s t.outputs)) ≡ false → IsReply K r
+  entry_fits : (k : ℕ) (t : Compact) (r : Reply) → IsCompact t
+      → (is_empty (on_shard K.shards s t.inputs) && is_empty (on_shard K.shards s t.outputs)) ≡ false → IsReply K r
       → IsEntry K (shard_node K s) (record { entry = entry_of K.shards s k t; reply = r })
   entry_fits k t r c e h = record {
     id = c.id;
@@ -67,7 +76,8 @@ module _ (K : Shape) (s : ℕ) (J : List Record) (b : Batch) (of_shape : IsBatch
     outputs = hash_list K.shards s t.outputs c.outputs;
     some = some_hash (on_shard K.shards s t.inputs) (on_shard K.shards s t.outputs) e;
     inputs_here = All-from_recursion (λ x. shard_node K (shard_of K.shards x) ≡ shard_node K s) (on_shard K.shards s t.inputs) (on_here K s t.inputs);
-    outputs_here = All-from_recursion (λ x. shard_node K (shard_of K.shards x) ≡ shard_node K s) (on_shard K.shards s t.outputs) (on_here K s t.outputs);
+    outputs_here = All-from_recursion (λ x. shard_node K (shard_of K.shards x) ≡ shard_node K s) (on_shard K.shards s t.outputs)
+        (on_here K s t.outputs);
     reply = h;
   }
 
@@ -81,17 +91,20 @@ module _ (K : Shape) (s : ℕ) (J : List Record) (b : Batch) (of_shape : IsBatch
   part_fits claimed k limit [] h le = record { all = tt; rises = tt; size = omega arith }
   part_fits claimed k limit (t ∷ ts) h le = elim (is_empty (on_shard K.shards s t.inputs) && is_empty (on_shard K.shards s t.outputs))
       as (λ c. (is_empty (on_shard K.shards s t.inputs) && is_empty (on_shard K.shards s t.outputs)) ≡ c
-      → Fits k limit (length (t ∷ ts)) (answered J b claimed (if c then part K.shards s (suc k) ts else entry_of K.shards s k t ∷ part K.shards s (suc k) ts))) [
+      → Fits k limit (length (t ∷ ts)) (answered J b claimed
+      (if c then part K.shards s (suc k) ts else entry_of K.shards s k t ∷ part K.shards s (suc k) ts))) [
         | true ↦ λ e. later_fits (answered J b claimed (part K.shards s (suc k) ts)) (part_fits claimed (suc k) limit ts h.1 (omega arith))
         | false ↦ λ e. first_fits (reply_to J b claimed (on_shard K.shards s t.inputs)) e
             (reply_fits claimed (on_shard K.shards s t.inputs) (on_all IsHash K.shards s t.inputs (recursion_from_All IsHash t.inputs h.0.inputs.1)))
-            _ (part_fits (if is_held (reply_to J b claimed (on_shard K.shards s t.inputs)) then on_shard K.shards s t.inputs ++ claimed else claimed) (suc k) limit ts h.1 (omega arith))
+            _ (part_fits (if is_held (reply_to J b claimed (on_shard K.shards s t.inputs)) then on_shard K.shards s t.inputs ++ claimed else claimed)
+            (suc k) limit ts h.1 (omega arith))
       ] refl
     where
       later_fits : (es : List Answered) → Fits (suc k) limit (length ts) es → Fits k limit (length (t ∷ ts)) es
       later_fits es f = record { all = f.all; rises = rises_lower k (suc k) limit es (omega arith) f.rises; size = omega (arith, f.size) }
 
-      first_fits : (r : Reply) → (is_empty (on_shard K.shards s t.inputs) && is_empty (on_shard K.shards s t.outputs)) ≡ false → IsReply K r → (es : List Answered)
+      first_fits : (r : Reply) → (is_empty (on_shard K.shards s t.inputs) && is_empty (on_shard K.shards s t.outputs)) ≡ false → IsReply K r
+          → (es : List Answered)
           → Fits (suc k) limit (length ts) es → Fits k limit (length (t ∷ ts)) (record { entry = entry_of K.shards s k t; reply = r } ∷ es)
       first_fits r e fit es f = record {
         all = (entry_fits k t r h.0 e fit, f.all);
@@ -111,7 +124,8 @@ reply_at_fits K n (a ∷ es) k h = elim (a.entry.place == k) as (λ c. MayReply 
   | false ↦ reply_at_fits K n es k h.1
 ]
 
-outcome_by_fits : (K : Shape) (o : Option Reply) (s : ℕ) (rest : Outcome) → MayReply K o → s < K.shards → IsOutcome K rest → IsOutcome K (outcome_by o s rest)
+outcome_by_fits : (K : Shape) (o : Option Reply) (s : ℕ) (rest : Outcome) → MayReply K o → s < K.shards → IsOutcome K rest
+    → IsOutcome K (outcome_by o s rest)
 outcome_by_fits K None s rest m lt h = h
 outcome_by_fits K (Some Held) s rest m lt h = h
 outcome_by_fits K (Some (Missing x)) s rest m lt h = (lt, m)
@@ -122,7 +136,8 @@ module _ (K : Shape) (locks : ℕ → List Answered) (fit : (s : ℕ) → s < K.
   outcome_fits k s zero le = tt
   outcome_fits k s (suc n) le =
       let lt : s < K.shards = omega arith in
-      outcome_by_fits K (reply_at (locks s) k) s (outcome locks k (suc s) n) (reply_at_fits K (shard_node K s) (locks s) k (fit s lt)) lt (outcome_fits k (suc s) n (omega arith))
+      outcome_by_fits K (reply_at (locks s) k) s (outcome locks k (suc s) n) (reply_at_fits K (shard_node K s) (locks s) k (fit s lt)) lt
+      (outcome_fits k (suc s) n (omega arith))
 
   pub outcomes_fit : (k : ℕ) (txs : List Compact) → AllByRecursion (IsOutcome K) (outcomes locks K.shards k txs)
   outcomes_fit k [] = tt

@@ -1,5 +1,6 @@
 -- The committed transactions of a kept history fold to a book, whose hashes are known by their statuses.
-use Rattle.std.proofs.Common.{if◌then◌else◌, ◌≡◌, ◌⊎◌, inl, inr, ℕ, suc, ◌+◌, ◌-◌, ◌<◌, ◌≤◌, true, false, List, [], ◌∷◌, ◌++◌, map, Some, None, find, refl, sym, ap, ◌∙◌, subst, arith, sum_by}
+use Rattle.std.proofs.Common.{if◌then◌else◌, ◌≡◌, ◌⊎◌, inl, inr, ℕ, suc, ◌+◌, ◌-◌, ◌<◌, ◌≤◌, true, false, List, [], ◌∷◌, ◌++◌, map, Some, None, find}
+use Rattle.std.proofs.Common.{refl, sym, ap, ◌∙◌, subst, arith, sum_by}
 use Rattle.std.proofs.lemmas.List.Sums.{sum_by-cons}
 use Rattle.std.specs.FinMap as book
 use Rattle.std.specs.Ordering.{nat_cmp}
@@ -8,7 +9,8 @@ use Rattle.cbdc_model.specs.Book.{Book, genesis_book, put_all, spend, spend_from
 use Rattle.cbdc_model.specs.Clean.{IsMember, IsNamed, Clean, KeepsMoney, IsProper, IsProperCompact}
 use Rattle.cbdc_model.specs.Money.{sum_in, sum_out, taken_sum, made_sum}
 use Rattle.cbdc_model.specs.Coins.{Input, Output, Coin, FullTx, coin_hash, tx_id, tx_coins, made_coins, compact, genesis_tx, genesis_hashes}
-use Rattle.cbdc_model.specs.History.{first_rows, committed, newly_won, won_of, all_inputs, all_outputs, same_compact, AreHandedIn, minted, history_of, Minted}
+use Rattle.cbdc_model.specs.History.{first_rows, committed, newly_won, won_of, all_inputs, all_outputs, same_compact, AreHandedIn, minted, history_of}
+use Rattle.cbdc_model.specs.History.{Minted}
 use Rattle.cbdc_model.specs.Outcomes.{won_txs}
 use Rattle.cbdc_model.specs.Records.{Digest, Shape, Compact, Outcome, is_won, Record, Row, journal, Commit, txs_of}
 use Rattle.cbdc_model.specs.Status.{Unspent, Locked}
@@ -23,11 +25,13 @@ use Rattle.ledger_laws.proofs.View.{Inv}
 use Rattle.ledger_laws.proofs.CommitStep.{Apart, Makes, maker}
 use Rattle.ledger_laws.proofs.Rows.{Structure, view}
 use Rattle.ledger_laws.proofs.First.{no_committed, all_first}
-use Rattle.ledger_laws.proofs.Theory.{kept_structure, kept_inv, Place, unspent, waits, comes, in_book, book_place, place_book, unspent-comes, locked-comes}
+use Rattle.ledger_laws.proofs.Theory.{kept_structure, kept_inv, Place, unspent, waits, comes, in_book, book_place, place_book, unspent-comes}
+use Rattle.ledger_laws.proofs.Theory.{locked-comes}
 use Rattle.ledger_laws.proofs.Folds.{Stands, Origin, Took, take_all_stands, put_all_stands, stands_same, point_of, hashes_of, EachCoin}
 use Rattle.ledger_laws.proofs.Issuing.{EachKeeps, is_issued, value_stays}
 use Rattle.ledger_laws.proofs.Funded.{Funded, behind, behind_all, behind_all-sum, kept_funded}
-use Rattle.ledger_laws.proofs.Members.{In, in_contains, contains_in, CoinAt, coin_at, Made, made_is, coins_apart, apart, tx_coins_once, genesis_member, in_count, count_in}
+use Rattle.ledger_laws.proofs.Members.{In, in_contains, contains_in, CoinAt, coin_at, Made, made_is, coins_apart, apart, tx_coins_once}
+use Rattle.ledger_laws.proofs.Members.{genesis_member, in_count, count_in}
 
 -- the full forms of compact transactions
 record FullForm (txs : List FullTx) (k : Compact) : Type 0 where
@@ -67,7 +71,8 @@ won_each P (t ∷ ts) (o ∷ os) each = elim (is_won o) as (λ c. Each P (if c t
 ]
 
 module _ (K : Shape) (P : Compact → Type 0) where
-  newly_each : (past : List Row) (st : Structure K P past) (node : ℕ) (r : Record) → Next K node (journal node past) r → Each P (newly_won r (journal node past))
+  newly_each : (past : List Row) (st : Structure K P past) (node : ℕ) (r : Record) → Next K node (journal node past) r
+      → Each P (newly_won r (journal node past))
   newly_each past st node (Commit stamp b os) next =
       won_each P (txs_of (journal node past) b) os (subst (λ n. Each P (txs_of (journal n past) b)) (sym next.2) (st.proper b))
   newly_each past st node other next = tt
@@ -101,7 +106,8 @@ module _ (mint : List Output) (txs : List FullTx) (clean : Clean mint txs) where
     pub fair : EachFair full
 
   same_keeps : (t u : FullTx) → t.inputs ≡ u.inputs → t.outputs ≡ u.outputs → KeepsMoney u.inputs u.outputs → KeepsMoney t.inputs t.outputs
-  same_keeps t u ins outs keeps = subst (λ os. KeepsMoney t.inputs os) (sym outs) (subst (λ (cs : List Input). KeepsMoney cs u.outputs) (sym ins) keeps)
+  same_keeps t u ins outs keeps = subst (λ os. KeepsMoney t.inputs os) (sym outs)
+      (subst (λ (cs : List Input). KeepsMoney cs u.outputs) (sym ins) keeps)
 
   pub full_forms : (ks : List Compact) → Each (IsProperCompact txs) ks → FullForms ks
   full_forms [] each = record { full = []; is = tt; forms = refl; fair = tt }
@@ -110,7 +116,8 @@ module _ (mint : List Output) (txs : List FullTx) (clean : Clean mint txs) where
       let p : IsProperCompact txs k = each.0 in
       let f : FullForm txs k = full_form txs k p.0 (in_contains txs p.0 p.1) p.3 in
       let member : IsMember mint txs f.tx = inr (contains_in txs f.tx f.inside) in
-      let same : (f.tx.inputs ≡ p.0.inputs) × (f.tx.outputs ≡ p.0.outputs) = clean.ids f.tx p.0 member (inr p.1) (ap (λ j. j.id) (f.form ∙ sym p.3)) in
+      let same : (f.tx.inputs ≡ p.0.inputs) × (f.tx.outputs ≡ p.0.outputs) = clean.ids f.tx p.0 member (inr p.1) (ap (λ j. j.id) (f.form ∙ sym p.3))
+      in
       record {
         full = f.tx ∷ rest.full;
         is = (f.is, rest.is);
@@ -129,7 +136,12 @@ module _ (mint : List Output) (txs : List FullTx) (clean : Clean mint txs) where
   made_coins-sum : (f : Output → ℕ) (id : Digest) (k : ℕ) (os : List Output) → sum_in f (made_coins id k os) ≡ sum_out f os
   made_coins-sum f id k [] = refl
   made_coins-sum f id k (o ∷ os) =
-      omega (arith, sum_by-cons (λ c. f c.output) (record { point = record { tx = id; index = k }; output = o }) (made_coins id (suc k) os), sum_by-cons f o os, made_coins-sum f id (suc k) os)
+      omega (
+        arith,
+        sum_by-cons (λ c. f c.output) (record { point = record { tx = id; index = k }; output = o }) (made_coins id (suc k) os),
+        sum_by-cons f o os,
+        made_coins-sum f id (suc k) os,
+      )
 
   abbrev StandsFor : Book → (Digest → ℕ) → Type 0
   StandsFor b β = Stands (IsNamed mint txs) (Made mint txs clean) b β
@@ -140,7 +152,8 @@ module _ (mint : List Output) (txs : List FullTx) (clean : Clean mint txs) where
     stands : StandsFor book (behind β (compact t))
     flow : (f : Output → ℕ) → total f book + sum_in f t.inputs ≡ total f b + sum_out f t.outputs
 
-  spend_stands : (b : Book) (β : Digest → ℕ) (t : FullTx) → StandsFor b β → Fair t → ((x : Digest) → count x (hashes_of t.inputs) ≤ β x) → ((x : Digest) → β x ≤ 1)
+  spend_stands : (b : Book) (β : Digest → ℕ) (t : FullTx) → StandsFor b β → Fair t → ((x : Digest) → count x (hashes_of t.inputs) ≤ β x)
+      → ((x : Digest) → β x ≤ 1)
       → ((x : Digest) → behind β (compact t) x ≤ 1) → Spent b t β
   spend_stands b β t st fair enough once room =
       let took : Took (coins_apart mint txs clean) b t.inputs β
@@ -210,7 +223,8 @@ module _ (K : Shape) (mint : List Output) (txs : List FullTx) (clean : Clean min
   in_of x b β st i =
       let o : Origin (Made mint txs clean) (point_of i.0) i.0.output = st.origin (point_of i.0) i.0.output i.1 in
       let same : i.0 ≡ o.coin = same_coin i.0 o.coin o.at_point o.output in
-      subst (λ y. 0 < β y) (ap coin_hash (sym same) ∙ i.2) (st.counted o.coin o.made (ap (book.get b) (sym o.at_point) ∙ i.1 ∙ ap (λ p. Some p) o.output))
+      subst (λ y. 0 < β y) (ap coin_hash (sym same) ∙ i.2)
+      (st.counted o.coin o.made (ap (book.get b) (sym o.at_point) ∙ i.1 ∙ ap (λ p. Some p) o.output))
     where
       same_coin : (d c : Coin) → point_of d ≡ point_of c → d.output ≡ c.output → d ≡ c
       same_coin d c p o =
@@ -234,28 +248,37 @@ module _ (K : Shape) (mint : List Output) (txs : List FullTx) (clean : Clean min
   to_place : (x : Digest) → Place K (history_of K mint later) x → IsPlaced K (history_of K mint later) x
   to_place x (unspent e) = inl e
   to_place x (waits b e z) = inr (inl (waits_for K (minted mint) (IsProperCompact txs) shards later kept x b e (inv.locked x b e).3 z))
-  to_place x (comes b m f) = inr (inr (b, contains_in (all_outputs (won_of K (history_of K mint later) b)) x (count_in x (all_outputs (won_of K (history_of K mint later) b)) m), f))
+  to_place x (comes b m f) = inr (inr (
+    b,
+    contains_in (all_outputs (won_of K (history_of K mint later) b)) x (count_in x (all_outputs (won_of K (history_of K mint later) b)) m),
+    f,
+  ))
 
   from_place : (x : Digest) → IsPlaced K (history_of K mint later) x → Place K (history_of K mint later) x
   from_place x (inl e) = unspent e
   from_place x (inr (inl w)) =
       waits w.0 w.2 (none_taken K (minted mint) (IsProperCompact txs) shards later kept x w.0 w.1 w.3 w.4 w.5 (inv.held_once x w.0) w.6)
   from_place x (inr (inr c)) =
-      comes c.0 (in_count x (all_outputs (won_of K (history_of K mint later) c.0)) (in_contains (all_outputs (won_of K (history_of K mint later) c.0)) x c.1)) c.2
+      comes c.0 (in_count x (all_outputs (won_of K (history_of K mint later) c.0))
+      (in_contains (all_outputs (won_of K (history_of K mint later) c.0)) x c.1)) c.2
 
   pub folds_steady : Folds K mint txs (history_of K mint later)
   folds_steady =
       let a : Apart (λ x. count x (genesis_hashes mint)) (IsProperCompact txs) = apart mint txs clean in
       let funded : Funded (λ x. count x (genesis_hashes mint)) (committed (history_of K mint later))
       = kept_funded K (minted mint) (IsProperCompact txs) shards a later kept in
-      let each : Each (IsProperCompact txs) (committed (history_of K mint later)) = kept_each K (IsProperCompact txs) (minted mint) shards a later kept in
-      let forms : FullForms mint txs clean (committed (history_of K mint later)) = full_forms mint txs clean (committed (history_of K mint later)) each in
+      let each : Each (IsProperCompact txs) (committed (history_of K mint later)) =
+      kept_each K (IsProperCompact txs) (minted mint) shards a later kept in
+      let forms : FullForms mint txs clean (committed (history_of K mint later)) =
+      full_forms mint txs clean (committed (history_of K mint later)) each in
       let folded : Folded mint txs clean (genesis_book mint) forms.full (λ x. count x (genesis_hashes mint))
       = fold_stands mint txs clean forms.full (genesis_book mint) (λ x. count x (genesis_hashes mint)) (genesis_stands mint txs clean) forms.fair
       (subst (λ ks. Funded (λ x. count x (genesis_hashes mint)) ks) (sym forms.forms) funded) in
-      let sums : (x : Digest) → behind_all (λ x. count x (genesis_hashes mint)) (map compact forms.full) x ≡ in_book (genesis_hashes mint) (history_of K mint later) x
+      let sums : (x : Digest) → behind_all (λ x. count x (genesis_hashes mint)) (map compact forms.full) x
+      ≡ in_book (genesis_hashes mint) (history_of K mint later) x
       = λ x. ap (λ ks. behind_all (λ x. count x (genesis_hashes mint)) ks x) forms.forms
-      ∙ (let e : behind_all (λ x. count x (genesis_hashes mint)) (committed (history_of K mint later)) x + count x (all_inputs (committed (history_of K mint later)))
+      ∙ (let e : behind_all (λ x. count x (genesis_hashes mint)) (committed (history_of K mint later)) x
+      + count x (all_inputs (committed (history_of K mint later)))
       ≡ count x (genesis_hashes mint) + count x (all_outputs (committed (history_of K mint later)))
       = behind_all-sum (λ x. count x (genesis_hashes mint)) (committed (history_of K mint later)) funded x in omega (arith, e)) in
       record {
@@ -270,14 +293,17 @@ module _ (K : Shape) (mint : List Output) (txs : List FullTx) (clean : Clean min
             let st : StandsFor mint txs clean folded.book (λ y. in_book (genesis_hashes mint) (history_of K mint later) y)
             = stands_same (coins_apart mint txs clean) folded.book _ _ (λ y. sym (sums y)) folded.stands in (
               λ i. to_place x
-                  (book_place K (minted mint) (IsProperCompact txs) (history_of K mint later) inv x (in_of K mint txs clean (history_of K mint later) inv x folded.book _ st i)),
+                  (book_place K (minted mint) (IsProperCompact txs) (history_of K mint later) inv x
+                  (in_of K mint txs clean (history_of K mint later) inv x folded.book _ st i)),
               λ p. book_of K mint txs clean (history_of K mint later) inv x folded.book st each
                   (let one : in_book (genesis_hashes mint) (history_of K mint later) x ≡ 1
                   = place_book K (minted mint) (IsProperCompact txs) (history_of K mint later) inv x (from_place x p) in omega (arith, one)),
             );
         unspent_or_waiting = λ x u w. (let no_way : Unspent ≡ Locked w.0 = sym u ∙ w.2 in cc);
-        unspent_or_coming = λ x u c. unspent-comes K (minted mint) (IsProperCompact txs) (history_of K mint later) inv x c.0 u (in_count x _ (in_contains _ x c.1)) c.2;
-        waiting_or_coming = λ x w c. locked-comes K (minted mint) (IsProperCompact txs) (history_of K mint later) inv x w.0 c.0 w.2 (in_count x _ (in_contains _ x c.1)) c.2;
+        unspent_or_coming = λ x u c. unspent-comes K (minted mint) (IsProperCompact txs) (history_of K mint later) inv x c.0 u
+            (in_count x _ (in_contains _ x c.1)) c.2;
+        waiting_or_coming = λ x w c. locked-comes K (minted mint) (IsProperCompact txs) (history_of K mint later) inv x w.0 c.0 w.2
+            (in_count x _ (in_contains _ x c.1)) c.2;
       }
 
 pub fold_law : FoldLaw

@@ -1,5 +1,6 @@
 -- A book stands for how often each hash is in it: taking and putting coins.
-use Rattle.std.proofs.Common.{◌≡◌, ◌⊎◌, inl, inr, ℕ, ◌+◌, ◌-◌, ◌<◌, ◌≤◌, true, if◌then◌else◌, List, [], ◌∷◌, map, Option, Some, None, refl, sym, ap, ◌∙◌, subst, arith, sum_by}
+use Rattle.std.proofs.Common.{◌≡◌, ◌⊎◌, inl, inr, ℕ, ◌+◌, ◌-◌, ◌<◌, ◌≤◌, true, if◌then◌else◌, List, [], ◌∷◌, map, Option, Some, None, refl, sym, ap}
+use Rattle.std.proofs.Common.{◌∙◌, subst, arith, sum_by}
 use Rattle.std.proofs.lemmas.List.Sums.{sum_by-cons}
 use Rattle.std.specs.FinMap as book
 use Rattle.cbdc_model.specs.Book.{Book, key, total, same_output, taken, take_out, take_all, put_all}
@@ -7,7 +8,8 @@ use Rattle.cbdc_model.specs.Coins.{Output, Coin, coin_hash}
 use Rattle.cbdc_model.specs.Money.{sum_in}
 use Rattle.cbdc_model.specs.Records.{Digest, same_digest}
 use Rattle.ledger_laws.proofs.Counts.{count, digests, same_digest_self, count-cons_same, count-cons_other}
-use Rattle.ledger_laws.proofs.Books.{same_key, other_key, keys, get-insert_same, get-insert_other, get-remove_same, get-remove_other, total-insert, total-remove}
+use Rattle.ledger_laws.proofs.Books.{same_key, other_key, keys, get-insert_same, get-insert_other, get-remove_same, get-remove_other, total-insert}
+use Rattle.ledger_laws.proofs.Books.{total-remove}
 
 abbrev pub point_of : Coin → List ℕ
 point_of c = key c.point
@@ -97,12 +99,18 @@ module _ {Named Made : Coin → Type 0} (apart : CoinsApart Named Made) where
 
   pub put_one : (b : Book) (β γ : Digest → ℕ) (c : Coin) → Stands Named Made b β → Made c → β (coin_hash c) ≡ 0 → γ (coin_hash c) ≡ 1
       → ((x : Digest) → (x ≡ coin_hash c → ⊥) → γ x ≡ β x)
-      → Stands Named Made (book.insert b (point_of c) c.output) γ × ((f : Output → ℕ) → total f (book.insert b (point_of c) c.output) ≡ f c.output + total f b)
+      → Stands Named Made (book.insert b (point_of c) c.output) γ
+      × ((f : Output → ℕ) → total f (book.insert b (point_of c) c.output) ≡ f c.output + total f b)
   put_one b β γ c st made zero_before one same =
       let free : book.get b (point_of c) ≡ None = no_coin (book.get b (point_of c)) refl in (
         record {
           origin = λ q o e. elim (keys q (point_of c)) [
-            | same_key t s ↦ record { coin = c; made = made; at_point = s; output = some_inj o c.output (sym e ∙ get-insert_same b (point_of c) c.output q s) }
+            | same_key t s ↦ record {
+              coin = c;
+              made = made;
+              at_point = s;
+              output = some_inj o c.output (sym e ∙ get-insert_same b (point_of c) c.output q s);
+            }
             | other_key t s ↦ st.origin q o (sym (get-insert_other b (point_of c) c.output q s) ∙ e)
           ];
           counted = λ d m e. elim (one_of (coin_hash d) (coin_hash c)) [
@@ -115,7 +123,8 @@ module _ {Named Made : Coin → Type 0} (apart : CoinsApart Named Made) where
           found = λ d n k. elim (one_of (coin_hash d) (coin_hash c)) [
             | inl h ↦
                 let is : d ≡ c = apart.same_hash d c n (apart.made_named c made) h in
-                subst (λ e. book.get (book.insert b (point_of c) c.output) (point_of e) ≡ Some e.output) (sym is) (get-insert_same b (point_of c) c.output (point_of c) refl)
+                subst (λ e. book.get (book.insert b (point_of c) c.output) (point_of e) ≡ Some e.output) (sym is)
+                (get-insert_same b (point_of c) c.output (point_of c) refl)
             | inr o ↦
                 let was : book.get b (point_of d) ≡ Some d.output = st.found d n (rw (same (coin_hash d) o) at k) in
                 elim (keys (point_of d) (point_of c)) [
@@ -159,7 +168,8 @@ module _ {Named Made : Coin → Type 0} (apart : CoinsApart Named Made) where
 
   pub take_all_stands : (cs : List Coin) (b : Book) (β : Digest → ℕ) → Stands Named Made b β → EachCoin Named cs
       → ((x : Digest) → count x (hashes_of cs) ≤ β x) → ((x : Digest) → β x ≤ 1) → Took b cs β
-  take_all_stands [] b β st each enough once = record { rest = b; taking = refl; stands = stands_same b β _ (λ x. omega arith) st; flow = λ f. none_taken f b }
+  take_all_stands [] b β st each enough once = record
+      { rest = b; taking = refl; stands = stands_same b β _ (λ x. omega arith) st; flow = λ f. none_taken f b }
     where
       none_taken : (f : Output → ℕ) (b : Book) → total f b ≡ sum_in f [] + total f b
       none_taken f b = omega arith
@@ -194,9 +204,12 @@ module _ {Named Made : Coin → Type 0} (apart : CoinsApart Named Made) where
   put_all_stands (c ∷ cs) b β st each room =
       let γ : Digest → ℕ = λ x. β x + count x (coin_hash c ∷ []) in
       let one : count (coin_hash c) (coin_hash c ∷ []) ≡ 1 = count_one (coin_hash c) (coin_hash c) refl in
-      let zero_before : β (coin_hash c) ≡ 0 = (let r : β (coin_hash c) + count (coin_hash c) (hashes_of (c ∷ cs)) ≤ 1 = room (coin_hash c) in omega (arith, r, one)) in
-      let first : Stands Named Made (book.insert b (point_of c) c.output) γ × ((f : Output → ℕ) → total f (book.insert b (point_of c) c.output) ≡ f c.output + total f b)
-      = put_one b β γ c st each.0 zero_before (omega arith) (λ x n. let z : count x (coin_hash c ∷ []) ≡ 0 = count_other x (coin_hash c) n in omega arith) in
+      let zero_before : β (coin_hash c) ≡ 0 = (let r : β (coin_hash c) + count (coin_hash c) (hashes_of (c ∷ cs)) ≤ 1 = room (coin_hash c) in
+      omega (arith, r, one)) in
+      let first : Stands Named Made (book.insert b (point_of c) c.output) γ
+      × ((f : Output → ℕ) → total f (book.insert b (point_of c) c.output) ≡ f c.output + total f b)
+      = put_one b β γ c st each.0 zero_before (omega arith)
+      (λ x n. let z : count x (coin_hash c ∷ []) ≡ 0 = count_other x (coin_hash c) n in omega arith) in
       let rest : Stands Named Made (put_all (book.insert b (point_of c) c.output) cs) (λ x. γ x + count x (hashes_of cs))
       × ((f : Output → ℕ) → total f (put_all (book.insert b (point_of c) c.output) cs) ≡ sum_in f cs + total f (book.insert b (point_of c) c.output))
       = put_all_stands cs (book.insert b (point_of c) c.output) γ first.0 each.1 (λ x. still_room x) in (

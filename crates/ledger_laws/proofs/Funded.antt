@@ -34,7 +34,8 @@ pub funded-append : (β : Digest → ℕ) (ts us : List Compact) → Funded β t
 funded-append β [] us f g = g
 funded-append β (t ∷ ts) us f g = (f.0, f.1, f.2, funded-append (behind β t) ts us f.3 g)
 
-pub funded_batch : (β : Digest → ℕ) (ts : List Compact) → ((x : Digest) → count x (all_inputs ts) ≤ β x) → ((x : Digest) → β x + count x (all_outputs ts) ≤ 1) → Funded β ts
+pub funded_batch : (β : Digest → ℕ) (ts : List Compact) → ((x : Digest) → count x (all_inputs ts) ≤ β x)
+    → ((x : Digest) → β x + count x (all_outputs ts) ≤ 1) → Funded β ts
 funded_batch β [] enough room = tt
 funded_batch β (t ∷ ts) enough room = (
   λ x. omega (arith, enough x, count-append x t.inputs (all_inputs ts)),
@@ -45,7 +46,8 @@ funded_batch β (t ∷ ts) enough room = (
       (λ x. omega (arith, enough x, room x, count-append x t.inputs (all_inputs ts), count-append x t.outputs (all_outputs ts))),
 )
 
-module _ {genesis : Digest → ℕ} {P : Compact → Type 0} (apart : Apart genesis P) {v w : View} (inv : Inv genesis P v) (b : Batch) (ts : List Compact) (step : Commits P v w b ts)
+module _ {genesis : Digest → ℕ} {P : Compact → Type 0} (apart : Apart genesis P) {v w : View} (inv : Inv genesis P v) (b : Batch) (ts : List Compact)
+    (step : Commits P v w b ts)
     (β : Digest → ℕ) (book : (x : Digest) → β x + v.spent x ≡ genesis x + v.made x) where
   pub newly_funded : Funded β ts
   newly_funded = funded_batch β ts
@@ -56,11 +58,14 @@ module _ {genesis : Digest → ℕ} {P : Compact → Type 0} (apart : Apart gene
       (λ x. omega (arith, book x, step.made x, (commit_kept apart inv b ts step).made_once x))
 
 module _ (K : Shape) (minting : Minted) (P : Compact → Type 0) (shards : 0 < K.shards) (apart : Apart (λ x. count x minting.hashes) P) where
-  quiet_funded : (past : List Row) (row : Row) → newly_won row.what (journal row.node past) ≡ [] → Funded (λ x. count x minting.hashes) (committed past)
+  quiet_funded : (past : List Row) (row : Row) → newly_won row.what (journal row.node past) ≡ []
+      → Funded (λ x. count x minting.hashes) (committed past)
       → Funded (λ x. count x minting.hashes) (committed (row ∷ past))
-  quiet_funded past row e f = subst (λ ts. Funded (λ x. count x minting.hashes) ts) (sym (ap (λ ts. committed past ++ ts) e ∙ append-nil (committed past))) f
+  quiet_funded past row e f = subst (λ ts. Funded (λ x. count x minting.hashes) ts)
+      (sym (ap (λ ts. committed past ++ ts) e ∙ append-nil (committed past))) f
 
-  funded_next : (past : List Row) → Structure K P past → Inv (λ x. count x minting.hashes) P (view K past) → Funded (λ x. count x minting.hashes) (committed past)
+  funded_next : (past : List Row) → Structure K P past → Inv (λ x. count x minting.hashes) P (view K past)
+      → Funded (λ x. count x minting.hashes) (committed past)
       → (node : ℕ) (r : Record) → Next K node (journal node past) r → IsCaused K (λ n. journal n past) node r
       → Funded (λ x. count x minting.hashes) (committed (record { node = node; what = r } ∷ past))
   funded_next past st inv f node (Genesis header hs) next caused = absurd next
@@ -69,16 +74,21 @@ module _ (K : Shape) (minting : Minted) (P : Compact → Type 0) (shards : 0 < K
       funded-append (λ x. count x minting.hashes) (committed past) _ f
       (funded_commit past st inv f node stamp b os next caused)
     where
-      funded_commit : (past : List Row) (st : Structure K P past) → Inv (λ x. count x minting.hashes) P (view K past) → Funded (λ x. count x minting.hashes) (committed past)
-          → (node stamp : ℕ) (b : Batch) (os : List Outcome) (next : Next K node (journal node past) (Commit stamp b os)) (caused : IsCaused K (λ n. journal n past) node (Commit stamp b os))
+      funded_commit : (past : List Row) (st : Structure K P past) → Inv (λ x. count x minting.hashes) P (view K past)
+          → Funded (λ x. count x minting.hashes) (committed past)
+          → (node stamp : ℕ) (b : Batch) (os : List Outcome) (next : Next K node (journal node past) (Commit stamp b os))
+          (caused : IsCaused K (λ n. journal n past) node (Commit stamp b os))
           → Funded (behind_all (λ x. count x minting.hashes) (committed past)) (newly_won (Commit stamp b os) (journal node past))
       funded_commit past st inv f node stamp b os next caused =
-          newly_funded apart inv b (newly K P past st node stamp b os shards next caused) (commit_changes K P past st node stamp b os shards next caused)
+          newly_funded apart inv b (newly K P past st node stamp b os shards next caused)
+          (commit_changes K P past st node stamp b os shards next caused)
           (behind_all (λ x. count x minting.hashes) (committed past)) (λ x. behind_all-sum (λ x. count x minting.hashes) (committed past) f x)
   funded_next past st inv f node other next caused = quiet_funded past (record { node = node; what = other }) refl f
 
   pub kept_funded : (later : List Row) → Steady K minting P later → Funded (λ x. count x minting.hashes) (committed (later ++ first_rows K minting))
-  kept_funded [] kept = subst (λ ts. Funded (λ x. count x minting.hashes) ts) (sym (no_committed (first_rows K minting) (all_first K minting P shards))) tt
+  kept_funded [] kept = subst (λ ts. Funded (λ x. count x minting.hashes) ts)
+      (sym (no_committed (first_rows K minting) (all_first K minting P shards))) tt
   kept_funded (row ∷ later) kept =
-      funded_next (later ++ first_rows K minting) (kept_structure K minting P shards apart later kept.3) (kept_inv K minting P shards apart later kept.3)
+      funded_next (later ++ first_rows K minting) (kept_structure K minting P shards apart later kept.3)
+      (kept_inv K minting P shards apart later kept.3)
       (kept_funded later kept.3) row.node row.what kept.0 kept.1

@@ -23,7 +23,8 @@ use Rattle.ledger_laws.proofs.Repeats.{lock_answered, finish_answered, forget_an
 use Rattle.ledger_laws.proofs.Granted.{lock_granted, finish_granted, forget_granted}
 
 pub reach_law : ReachLaw
-reach_law K mint txs later shards kept = reach K (minted mint) (IsProperCompact txs) shards later (steady K (minted mint) (IsProperCompact txs) later kept)
+reach_law K mint txs later shards kept = reach K (minted mint) (IsProperCompact txs) shards later
+    (steady K (minted mint) (IsProperCompact txs) later kept)
 
 pub one_history_law : OneHistoryLaw
 one_history_law K m J one other a b =
@@ -42,7 +43,8 @@ maker_law K mint txs later x shards clean kept there =
       | inr m ↦ inr (
         m.0,
         record {
-          makes = contains_in (all_outputs (won_of K (history_of K mint later) m.0)) x (count_in x (all_outputs (won_of K (history_of K mint later) m.0)) m.1);
+          makes = contains_in (all_outputs (won_of K (history_of K mint later) m.0)) x
+              (count_in x (all_outputs (won_of K (history_of K mint later) m.0)) m.1);
           finished = m.2;
           commit_older = λ c e. (made_earlier K (minted mint) (IsProperCompact txs) shards later k x m.0 c m.1 m.2 e).0;
           finish_older = λ c e. (made_earlier K (minted mint) (IsProperCompact txs) shards later k x m.0 c m.1 m.2 e).1;
@@ -65,7 +67,8 @@ more_law K mint txs more (row ∷ later) sub kept = (
   kept.0,
   kept.1,
   passes_of (IsProperCompact more) row.what
-      (each_more (IsProperCompact txs) (IsProperCompact more) (λ k p. (p.0, sub p.0 p.1, p.2, p.3)) row.what (proper_of (IsProperCompact txs) row.what kept.2)),
+      (each_more (IsProperCompact txs) (IsProperCompact more) (λ k p. (p.0, sub p.0 p.1, p.2, p.3)) row.what
+      (proper_of (IsProperCompact txs) row.what kept.2)),
   more_law K mint txs more later sub kept.3,
 )
 
@@ -80,7 +83,8 @@ answer_law K mint txs later node (Finish_call c) shards kept at stands =
     let k = steady K (minted mint) (IsProperCompact txs) later kept in
     finish_granted (journal node (history_of K mint later)) c.batch c.decisions c.cause (
     subst (λ ds. FinishAnswered (journal node (history_of K mint later)) c.batch ds c.cause) (sym stands.2)
-    (subst (λ n. FinishAnswered (journal n (history_of K mint later)) c.batch (decisions stands.0 (entries (lock_of (journal n (history_of K mint later)) c.batch))) c.cause) (sym at.1)
+    (subst (λ n. FinishAnswered (journal n (history_of K mint later)) c.batch
+    (decisions stands.0 (entries (lock_of (journal n (history_of K mint later)) c.batch))) c.cause) (sym at.1)
     (finish_answered K (minted mint) (IsProperCompact txs) shards later k c.batch c.cause stands.0 stands.1 at.0 at.2)))
 answer_law K mint txs later node (Forget_call c) shards kept at stands =
     let k = steady K (minted mint) (IsProperCompact txs) later kept in

@@ -8,7 +8,8 @@ use Rattle.cbdc_types.specs.Kinds.{kind_of}
 use Rattle.cbdc_types.specs.declared.tx.Kind.{Kind}
 use Rattle.cbdc_types.specs.declared.tx.Kind.TheVariants.{Permit, Burn, Money}
 use Rattle.cbdc_model.specs.Coins.{Input, Output, FullTx}
-use Rattle.cbdc_model.specs.Money.{if_money, if_permit, if_burn, money_of, issuable_of, burnt_of, permits_of, sum_in, sum_out, taken_sum, made_sum, issued_by, redeemed_by, issued, redeemed, ArePaired}
+use Rattle.cbdc_model.specs.Money.{if_money, if_permit, if_burn, money_of, issuable_of, burnt_of, permits_of, sum_in, sum_out, taken_sum, made_sum}
+use Rattle.cbdc_model.specs.Money.{issued_by, redeemed_by, issued, redeemed, ArePaired}
 use Rattle.cbdc_model.specs.Clean.{value_in, value_out, KeepsMoney}
 use Rattle.cbdc_model.specs.Book.{Book, genesis_book, total, value}
 use Rattle.cbdc_model.specs.Headline.{all_spent, IsIssued}
@@ -94,7 +95,15 @@ all_kept (t ∷ ts) each =
     let rest = all_kept ts each.1 in
     record {
       value = omega (arith, one.value, rest.value, takes (λ o. o.value) t ts, makes (λ o. o.value) t ts);
-      money = omega (arith, one.money, rest.money, takes money_of t ts, makes money_of t ts, sum_by-cons issued_by t ts, sum_by-cons redeemed_by t ts);
+      money = omega (
+        arith,
+        one.money,
+        rest.money,
+        takes money_of t ts,
+        makes money_of t ts,
+        sum_by-cons issued_by t ts,
+        sum_by-cons redeemed_by t ts,
+      );
       permits = omega (arith, one.permits, rest.permits, takes permits_of t ts, makes permits_of t ts);
       issuable = omega (arith, one.issuable, rest.issuable, takes issuable_of t ts, makes issuable_of t ts, sum_by-cons issued_by t ts);
     }
@@ -106,7 +115,8 @@ all-append P (x ∷ xs) ys h k = (h.0, all-append P xs ys h.1 k)
 no_burn_spent : (ts : List FullTx) → EachKeeps ts → AllByRecursion (λ c. kind_of c.output ≢ Burn) (all_spent ts)
 no_burn_spent [] each = tt
 no_burn_spent (t ∷ ts) each =
-    all-append (λ c. kind_of c.output ≢ Burn) t.inputs (all_spent ts) (recursion_from_All (λ c. kind_of c.output ≢ Burn) t.inputs each.0.none_burnt) (no_burn_spent ts each.1)
+    all-append (λ c. kind_of c.output ≢ Burn) t.inputs (all_spent ts) (recursion_from_All (λ c. kind_of c.output ≢ Burn) t.inputs each.0.none_burnt)
+    (no_burn_spent ts each.1)
 
 -- by any measure the book and what was taken come to what there was and what was made
 abbrev pub Flows : List Output → List FullTx → Book → Type 0
@@ -132,10 +142,16 @@ no_permit k n e = ap (λ j. if_permit j n) e
 not_burn : (k : Kind) → k ≡ Money → k ≢ Burn
 not_burn k money burn = let lie : Money ≡ Burn = sym money ∙ burn in cc
 
-none_permit : {A : Type 0} (out : A → Output) (f : Output → ℕ) (xs : List A) → AllByRecursion (λ x. kind_of (out x) ≡ Money) xs → sum_by (λ x. if_permit (kind_of (out x)) (f (out x))) xs ≡ 0
+none_permit : {A : Type 0} (out : A → Output) (f : Output → ℕ) (xs : List A) → AllByRecursion (λ x. kind_of (out x) ≡ Money) xs
+    → sum_by (λ x. if_permit (kind_of (out x)) (f (out x))) xs ≡ 0
 none_permit out f [] all = refl
 none_permit out f (x ∷ xs) all =
-    omega (arith, no_permit (kind_of (out x)) (f (out x)) all.0, none_permit out f xs all.1, sum_by-cons (λ x. if_permit (kind_of (out x)) (f (out x))) x xs)
+    omega (
+      arith,
+      no_permit (kind_of (out x)) (f (out x)) all.0,
+      none_permit out f xs all.1,
+      sum_by-cons (λ x. if_permit (kind_of (out x)) (f (out x))) x xs,
+    )
 
 all_weaker : {A : Type 0} (P Q : A → Type 0) (xs : List A) → ((x : A) → P x → Q x) → AllByRecursion P xs → AllByRecursion Q xs
 all_weaker P Q [] f all = tt

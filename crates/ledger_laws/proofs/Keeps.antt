@@ -2,7 +2,8 @@
 use Rattle.std.proofs.Common.{◌≡◌, ◌⊎◌, inl, inr, ℕ, ◌/◌, Bool, true, false, ◌==◌, if◌then◌else◌, List, ◌∷◌, refl, sym, ap, ◌∙◌, subst, arith}
 use Rattle.cbdc_model.specs.Causes.{IsCaused}
 use Rattle.cbdc_model.specs.Ranges.{shard_node, lane_journal, part}
-use Rattle.cbdc_model.specs.Records.{Shape, Batch, same_batch, Compact, Outcome, Answered, Record, Row, journal, Genesis, Lock, Finish, Start, Prepare, Commit, lock_of, txs_of}
+use Rattle.cbdc_model.specs.Records.{Shape, Batch, same_batch, Compact, Outcome, Answered, Record, Row, journal, Genesis, Lock, Finish, Start}
+use Rattle.cbdc_model.specs.Records.{Prepare, Commit, lock_of, txs_of}
 use Rattle.cbdc_model.specs.Replies.{entries}
 use Rattle.ledger_laws.proofs.Next.{Next, has_lock, has_finish, has_prepare, has_commit, Each, AllProper}
 use Rattle.ledger_laws.proofs.View.{same, other, same_or_not, same_batch_is}
@@ -33,12 +34,16 @@ module _ (K : Shape) (P : Compact → Type 0) (past : List Row) (st : Structure 
     pub quiet_keeps : Structure K P (row ∷ past)
     quiet_keeps = record {
       journals = journals_next K past st.journals row next;
-      lock_prepared = λ n b h. prepare_kept (b.lane / K.lanes) b (st.lock_prepared n b (sym (unchanged (λ J. has_lock J b) n row past (same_has_lock (journal n past) b)) ∙ h));
-      finish_committed = λ n b h. commit_kept (b.lane / K.lanes) b (st.finish_committed n b (sym (unchanged (λ J. has_finish J b) n row past (same_finish (journal n past) b)) ∙ h));
+      lock_prepared = λ n b h. prepare_kept (b.lane / K.lanes) b
+          (st.lock_prepared n b (sym (unchanged (λ J. has_lock J b) n row past (same_has_lock (journal n past) b)) ∙ h));
+      finish_committed = λ n b h. commit_kept (b.lane / K.lanes) b
+          (st.finish_committed n b (sym (unchanged (λ J. has_finish J b) n row past (same_finish (journal n past) b)) ∙ h));
       lock_part = λ s b h. ap entries (unchanged (λ J. lock_of J b) (shard_node K s) row past (same_lock (journal (shard_node K s) past) b))
           ∙ st.lock_part s b (sym (unchanged (λ J. has_lock J b) (shard_node K s) row past (same_has_lock (journal (shard_node K s) past) b)) ∙ h)
-          ∙ ap (λ ts. part K.shards s 0 ts) (sym (unchanged (λ J. txs_of J b) (b.lane / K.lanes) row past (same_txs (journal (b.lane / K.lanes) past) b)));
-      proper = λ b. subst (λ ts. Each P ts) (sym (unchanged (λ J. txs_of J b) (b.lane / K.lanes) row past (same_txs (journal (b.lane / K.lanes) past) b))) (st.proper b);
+          ∙ ap (λ ts. part K.shards s 0 ts) (sym (unchanged (λ J. txs_of J b) (b.lane / K.lanes) row past
+          (same_txs (journal (b.lane / K.lanes) past) b)));
+      proper = λ b. subst (λ ts. Each P ts) (sym (unchanged (λ J. txs_of J b) (b.lane / K.lanes) row past
+          (same_txs (journal (b.lane / K.lanes) past) b))) (st.proper b);
     }
 
 module _ (K : Shape) (P : Compact → Type 0) (past : List Row) (st : Structure K P past) where
@@ -52,16 +57,19 @@ module _ (K : Shape) (P : Compact → Type 0) (past : List Row) (st : Structure 
         → ((same_batch b c ≡ true) × (node ≡ n)) ⊎ (has_lock (journal n past) c ≡ true)
     new_lock n c h = grind arith
 
-    same_prepare : (n : ℕ) (c : Batch) → has_prepare (journal n (record { node = node; what = Lock stamp b es } ∷ past)) c ≡ has_prepare (journal n past) c
+    same_prepare : (n : ℕ) (c : Batch) → has_prepare (journal n (record { node = node; what = Lock stamp b es } ∷ past)) c
+        ≡ has_prepare (journal n past) c
     same_prepare n c = unchanged (λ J. has_prepare J c) n (record { node = node; what = Lock stamp b es }) past refl
 
     no_lock_before : (c : Batch) → same_batch b c ≡ true → has_lock (journal node past) c ≡ true → ⊥
     no_lock_before c e h = grind (arith, (st.journals node).lock_below c)
 
-    lock_of_other : (n : ℕ) (c : Batch) → same_batch b c ≡ false → lock_of (journal n (record { node = node; what = Lock stamp b es } ∷ past)) c ≡ lock_of (journal n past) c
+    lock_of_other : (n : ℕ) (c : Batch) → same_batch b c ≡ false
+        → lock_of (journal n (record { node = node; what = Lock stamp b es } ∷ past)) c ≡ lock_of (journal n past) c
     lock_of_other n c e = grind arith
 
-    lock_of_elsewhere : (n : ℕ) (c : Batch) → (node ≡ n → ⊥) → lock_of (journal n (record { node = node; what = Lock stamp b es } ∷ past)) c ≡ lock_of (journal n past) c
+    lock_of_elsewhere : (n : ℕ) (c : Batch) → (node ≡ n → ⊥)
+        → lock_of (journal n (record { node = node; what = Lock stamp b es } ∷ past)) c ≡ lock_of (journal n past) c
     lock_of_elsewhere n c e = grind arith
 
     lock_of_new : (c : Batch) → same_batch b c ≡ true → lock_of (journal node (record { node = node; what = Lock stamp b es } ∷ past)) c ≡ es
@@ -84,17 +92,21 @@ module _ (K : Shape) (P : Compact → Type 0) (past : List Row) (st : Structure 
           | inl new ↦
               let is : lock_of (journal (shard_node K s) (record { node = node; what = Lock stamp b es } ∷ past)) c ≡ es
               = subst (λ n. lock_of (journal n (record { node = node; what = Lock stamp b es } ∷ past)) c ≡ es) new.1 (lock_of_new c new.0) in
-              ap entries is ∙ subst (λ d. entries es ≡ part K.shards s 0 (txs_of (lane_journal K past d) d)) (same_batch_is b c new.0) (caused.1 s new.1)
+              ap entries is ∙ subst (λ d. entries es ≡ part K.shards s 0 (txs_of (lane_journal K past d) d)) (same_batch_is b c new.0)
+              (caused.1 s new.1)
               ∙ ap (λ ts. part K.shards s 0 ts) (sym same_txs)
           | inr old ↦ ap entries (same_lock s c old) ∙ st.lock_part s c old ∙ ap (λ ts. part K.shards s 0 ts) (sym same_txs)
         ]
       where
         same_lock : (s : ℕ) (c : Batch) → has_lock (journal (shard_node K s) past) c ≡ true
             → lock_of (journal (shard_node K s) (record { node = node; what = Lock stamp b es } ∷ past)) c ≡ lock_of (journal (shard_node K s) past) c
-        same_lock s c old = elim (same_batch b c) as (λ v. same_batch b c ≡ v → lock_of (journal (shard_node K s) (record { node = node; what = Lock stamp b es } ∷ past)) c ≡ lock_of (journal (shard_node K s) past) c) [
-          | true ↦ λ e. lock_of_elsewhere (shard_node K s) c (λ is. no_lock_before c e (subst (λ n. has_lock (journal n past) c ≡ true) (sym is) old))
-          | false ↦ λ e. lock_of_other (shard_node K s) c e
-        ] refl
+        same_lock s c old = elim (same_batch b c) as
+            (λ v. same_batch b c ≡ v → lock_of (journal (shard_node K s) (record { node = node; what = Lock stamp b es } ∷ past)) c
+            ≡ lock_of (journal (shard_node K s) past) c) [
+              | true ↦ λ e. lock_of_elsewhere (shard_node K s) c
+                  (λ is. no_lock_before c e (subst (λ n. has_lock (journal n past) c ≡ true) (sym is) old))
+              | false ↦ λ e. lock_of_other (shard_node K s) c e
+            ] refl
 
     pub lock_keeps : Structure K P (record { node = node; what = Lock stamp b es } ∷ past)
     lock_keeps = record {
@@ -103,7 +115,8 @@ module _ (K : Shape) (P : Compact → Type 0) (past : List Row) (st : Structure 
       finish_committed = λ n c h. unchanged (λ J. has_commit J c) (c.lane / K.lanes) (record { node = node; what = Lock stamp b es }) past refl
           ∙ st.finish_committed n c (sym (unchanged (λ J. has_finish J c) n (record { node = node; what = Lock stamp b es }) past refl) ∙ h);
       lock_part = lock_part_next;
-      proper = λ c. subst (λ ts. Each P ts) (sym (unchanged (λ J. txs_of J c) (c.lane / K.lanes) (record { node = node; what = Lock stamp b es }) past refl)) (st.proper c);
+      proper = λ c. subst (λ ts. Each P ts) (sym (unchanged (λ J. txs_of J c) (c.lane / K.lanes) (record { node = node; what = Lock stamp b es })
+          past refl)) (st.proper c);
     }
 
   -- Prepare
@@ -114,13 +127,15 @@ module _ (K : Shape) (P : Compact → Type 0) (past : List Row) (st : Structure 
         let h' : has_prepare (journal node past) b ≡ true = subst (λ n. has_prepare (journal n past) b ≡ true) (sym next.2) h in
         omega (arith, (st.journals node).prepare_below b h', next.4)
 
-    txs_of_other : (n : ℕ) (c : Batch) → same_batch b c ≡ false → txs_of (journal n (record { node = node; what = Prepare stamp b txs } ∷ past)) c ≡ txs_of (journal n past) c
+    txs_of_other : (n : ℕ) (c : Batch) → same_batch b c ≡ false
+        → txs_of (journal n (record { node = node; what = Prepare stamp b txs } ∷ past)) c ≡ txs_of (journal n past) c
     txs_of_other n c e = grind arith
 
     txs_of_new : (c : Batch) → same_batch b c ≡ true → txs_of (journal node (record { node = node; what = Prepare stamp b txs } ∷ past)) c ≡ txs
     txs_of_new c e = grind arith
 
-    prepared_kept : (n : ℕ) (c : Batch) → has_prepare (journal n past) c ≡ true → has_prepare (journal n (record { node = node; what = Prepare stamp b txs } ∷ past)) c ≡ true
+    prepared_kept : (n : ℕ) (c : Batch) → has_prepare (journal n past) c ≡ true
+        → has_prepare (journal n (record { node = node; what = Prepare stamp b txs } ∷ past)) c ≡ true
     prepared_kept n c h = grind arith
 
     prepare_lock_part : (s : ℕ) (c : Batch) → has_lock (journal (shard_node K s) (record { node = node; what = Prepare stamp b txs } ∷ past)) c ≡ true
@@ -136,13 +151,14 @@ module _ (K : Shape) (P : Compact → Type 0) (past : List Row) (st : Structure 
         ]
 
     prepare_proper : (c : Batch) → Each P (txs_of (lane_journal K (record { node = node; what = Prepare stamp b txs } ∷ past) c) c)
-    prepare_proper c = elim (same_batch b c) as (λ v. same_batch b c ≡ v → Each P (txs_of (lane_journal K (record { node = node; what = Prepare stamp b txs } ∷ past) c) c)) [
-      | true ↦ λ e.
-          let here : node ≡ c.lane / K.lanes = subst (λ d. node ≡ d.lane / K.lanes) (same_batch_is b c e) next.2 in
-          subst (λ n. Each P (txs_of (journal n (record { node = node; what = Prepare stamp b txs } ∷ past)) c)) here
-          (subst (λ ts. Each P ts) (sym (txs_of_new c e)) proper)
-      | false ↦ λ e. subst (λ ts. Each P ts) (sym (txs_of_other (c.lane / K.lanes) c e)) (st.proper c)
-    ] refl
+    prepare_proper c = elim (same_batch b c) as (λ v. same_batch b c ≡ v
+        → Each P (txs_of (lane_journal K (record { node = node; what = Prepare stamp b txs } ∷ past) c) c)) [
+          | true ↦ λ e.
+              let here : node ≡ c.lane / K.lanes = subst (λ d. node ≡ d.lane / K.lanes) (same_batch_is b c e) next.2 in
+              subst (λ n. Each P (txs_of (journal n (record { node = node; what = Prepare stamp b txs } ∷ past)) c)) here
+              (subst (λ ts. Each P ts) (sym (txs_of_new c e)) proper)
+          | false ↦ λ e. subst (λ ts. Each P ts) (sym (txs_of_other (c.lane / K.lanes) c e)) (st.proper c)
+        ] refl
 
     pub prepare_keeps : Structure K P (record { node = node; what = Prepare stamp b txs } ∷ past)
     prepare_keeps = record {
@@ -174,8 +190,10 @@ module _ (K : Shape) (P : Compact → Type 0) (past : List Row) (st : Structure 
           ];
       lock_part = λ s c h. ap entries (unchanged (λ J. lock_of J c) (shard_node K s) (record { node = node; what = Finish stamp b ds }) past refl)
           ∙ st.lock_part s c (sym (unchanged (λ J. has_lock J c) (shard_node K s) (record { node = node; what = Finish stamp b ds }) past refl) ∙ h)
-          ∙ ap (λ ts. part K.shards s 0 ts) (sym (unchanged (λ J. txs_of J c) (c.lane / K.lanes) (record { node = node; what = Finish stamp b ds }) past refl));
-      proper = λ c. subst (λ ts. Each P ts) (sym (unchanged (λ J. txs_of J c) (c.lane / K.lanes) (record { node = node; what = Finish stamp b ds }) past refl)) (st.proper c);
+          ∙ ap (λ ts. part K.shards s 0 ts) (sym (unchanged (λ J. txs_of J c) (c.lane / K.lanes) (record { node = node; what = Finish stamp b ds })
+          past refl));
+      proper = λ c. subst (λ ts. Each P ts) (sym (unchanged (λ J. txs_of J c) (c.lane / K.lanes) (record { node = node; what = Finish stamp b ds })
+          past refl)) (st.proper c);
     }
 
 commit_stays : (J : List Record) (stamp : ℕ) (b c : Batch) (os : List Outcome) → has_commit J c ≡ true → has_commit (Commit stamp b os ∷ J) c ≡ true
@@ -183,7 +201,8 @@ commit_stays J stamp b c os h = grind arith
 
 -- any record that is next, is caused, and has transactions that pass
 pub keeps : (K : Shape) (P : Compact → Type 0) (past : List Row) → Structure K P past → (node : ℕ) (r : Record)
-    → Next K node (journal node past) r → IsCaused K (λ n. journal n past) node r → AllProper P r → Structure K P (record { node = node; what = r } ∷ past)
+    → Next K node (journal node past) r → IsCaused K (λ n. journal n past) node r → AllProper P r
+    → Structure K P (record { node = node; what = r } ∷ past)
 keeps K P past st node (Genesis header hs) next caused proper = absurd next
 keeps K P past st node (Start header) next caused proper = absurd next
 keeps K P past st node (Lock stamp b es) next caused proper = lock_keeps K P past st node stamp b es next caused

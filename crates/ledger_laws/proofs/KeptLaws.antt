@@ -10,7 +10,8 @@ use Rattle.ledger_laws.proofs.Worlds.{run_keeps, step_keeps}
 pub kept_law : KeptLaw
 kept_law K mint txs events w shards proper run =
     to_kept K mint txs w (run_length K (minted mint) (init K (minted mint)) w events run ∙ init_length K (minted mint) (IsProperCompact txs))
-    (run_keeps K (minted mint) (IsProperCompact txs) shards (init K (minted mint)) w events (init_kept K (minted mint) (IsProperCompact txs)) proper run)
+    (run_keeps K (minted mint) (IsProperCompact txs) shards (init K (minted mint)) w events (init_kept K (minted mint) (IsProperCompact txs)) proper
+    run)
 
 pub step_law : StepLaw
 step_law K mint txs old new event shards kept proper step =

@@ -1,6 +1,8 @@
 -- The last record of a lane in a journal, against the slot.
-use Rattle.std.proofs.Common.{◌≡◌, ◌⊎◌, inl, inr, ℕ, Bool, true, false, cond, ◌&&◌, ◌==◌, if◌then◌else◌, List, [], ◌∷◌, Option, Some, None, is_some, find, refl, sym, ap, ◌∙◌, subst, arith}
-use Rattle.cbdc_model.specs.Records.{Batch, Record, record_of, kind_of, is_of, is_in_lane, stamp_of, stamp_in, Genesis, Lock, Finish, Forget, Start, Prepare, Commit, Discard, Done}
+use Rattle.std.proofs.Common.{◌≡◌, ◌⊎◌, inl, inr, ℕ, Bool, true, false, cond, ◌&&◌, ◌==◌, if◌then◌else◌, List, [], ◌∷◌, Option, Some, None, is_some}
+use Rattle.std.proofs.Common.{find, refl, sym, ap, ◌∙◌, subst, arith}
+use Rattle.cbdc_model.specs.Records.{Batch, Record, record_of, kind_of, is_of, is_in_lane, stamp_of, stamp_in, Genesis, Lock, Finish, Forget, Start}
+use Rattle.cbdc_model.specs.Records.{Prepare, Commit, Discard, Done}
 use Rattle.cbdc_model.specs.Slots.{Phase, Slot, slot, slot_stamp, Idle, InLock, InFinish, InPrepare, InCommit, InDiscard}
 use Rattle.ledger_laws.proofs.ByKind.{some_is, of_in_lane}
 
@@ -24,7 +26,8 @@ pub slot_next : (r : Record) (J : List Record) (lane : ℕ) → slot (r ∷ J) l
 slot_next (Genesis header hs) J lane = refl
 slot_next other J lane = refl
 
-slot_head : (c : Bool) (r : Option Record) (rest : Option Record) (s : Slot) → s ≡ slot_by rest → (if c then slot_by r else s) ≡ slot_by (cond c r rest)
+slot_head : (c : Bool) (r : Option Record) (rest : Option Record) (s : Slot) → s ≡ slot_by rest
+    → (if c then slot_by r else s) ≡ slot_by (cond c r rest)
 slot_head true r rest s e = refl
 slot_head false r rest s e = e
 
@@ -40,32 +43,38 @@ second : (a b : Bool) → (a && b) ≡ true → b ≡ true
 second a b h = grind arith
 
 -- the last record of a lane is the newest of its kind of its batch
-pub last_found : (J : List Record) (kind : ℕ) (b : Batch) (r : Record) → last_of J b.lane ≡ Some r → ((kind_of r == kind) && is_of b r) ≡ true → record_of kind J b ≡ Some r
+pub last_found : (J : List Record) (kind : ℕ) (b : Batch) (r : Record) → last_of J b.lane ≡ Some r → ((kind_of r == kind) && is_of b r) ≡ true
+    → record_of kind J b ≡ Some r
 last_found [] kind b r e t = absurd (let z : None ≡ Some r = e in cc)
 last_found (q ∷ J) kind b r e t = step kind q J b r e t (λ g. last_found J kind b r g t)
   where
-    step : (kind : ℕ) (q : Record) (J : List Record) (b : Batch) (r : Record) → last_of (q ∷ J) b.lane ≡ Some r → ((kind_of r == kind) && is_of b r) ≡ true
+    step : (kind : ℕ) (q : Record) (J : List Record) (b : Batch) (r : Record) → last_of (q ∷ J) b.lane ≡ Some r
+        → ((kind_of r == kind) && is_of b r) ≡ true
         → (last_of J b.lane ≡ Some r → record_of kind J b ≡ Some r) → record_of kind (q ∷ J) b ≡ Some r
-    step kind q J b r e t rest = elim (is_in_lane b.lane q) as (λ c. is_in_lane b.lane q ≡ c → cond c (Some q) (last_of J b.lane) ≡ Some r → record_of kind (q ∷ J) b ≡ Some r) [
-      | true ↦ λ l g.
-          let same : q ≡ r = some_is q r g in
-          let t' : ((kind_of q == kind) && is_of b q) ≡ true = subst (λ a. ((kind_of a == kind) && is_of b a) ≡ true) (sym same) t in
-          rw t' (ap (λ a. Some a) same)
-      | false ↦ λ l g. elim ((kind_of q == kind) && is_of b q) as (λ u. ((kind_of q == kind) && is_of b q) ≡ u → cond u (Some q) (record_of kind J b) ≡ Some r) [
-        | true ↦ λ u. absurd (let z : true ≡ false = sym (of_in_lane b q (second (kind_of q == kind) (is_of b q) u)) ∙ l in cc)
-        | false ↦ λ u. rest g
-      ] refl
-    ] refl e
+    step kind q J b r e t rest = elim (is_in_lane b.lane q) as
+        (λ c. is_in_lane b.lane q ≡ c → cond c (Some q) (last_of J b.lane) ≡ Some r → record_of kind (q ∷ J) b ≡ Some r) [
+          | true ↦ λ l g.
+              let same : q ≡ r = some_is q r g in
+              let t' : ((kind_of q == kind) && is_of b q) ≡ true = subst (λ a. ((kind_of a == kind) && is_of b a) ≡ true) (sym same) t in
+              rw t' (ap (λ a. Some a) same)
+          | false ↦ λ l g. elim ((kind_of q == kind) && is_of b q) as
+              (λ u. ((kind_of q == kind) && is_of b q) ≡ u → cond u (Some q) (record_of kind J b) ≡ Some r) [
+                | true ↦ λ u. absurd (let z : true ≡ false = sym (of_in_lane b q (second (kind_of q == kind) (is_of b q) u)) ∙ l in cc)
+                | false ↦ λ u. rest g
+              ] refl
+        ] refl e
 
 pub last_in_lane : (J : List Record) (lane : ℕ) (r : Record) → last_of J lane ≡ Some r → is_in_lane lane r ≡ true
 last_in_lane [] lane r e = absurd (let z : None ≡ Some r = e in cc)
 last_in_lane (q ∷ J) lane r e = step q J lane r e (λ g. last_in_lane J lane r g)
   where
-    step : (q : Record) (J : List Record) (lane : ℕ) (r : Record) → last_of (q ∷ J) lane ≡ Some r → (last_of J lane ≡ Some r → is_in_lane lane r ≡ true) → is_in_lane lane r ≡ true
-    step q J lane r e rest = elim (is_in_lane lane q) as (λ c. is_in_lane lane q ≡ c → cond c (Some q) (last_of J lane) ≡ Some r → is_in_lane lane r ≡ true) [
-      | true ↦ λ l g. subst (λ a. is_in_lane lane a ≡ true) (some_is q r g) l
-      | false ↦ λ l g. rest g
-    ] refl e
+    step : (q : Record) (J : List Record) (lane : ℕ) (r : Record) → last_of (q ∷ J) lane ≡ Some r
+        → (last_of J lane ≡ Some r → is_in_lane lane r ≡ true) → is_in_lane lane r ≡ true
+    step q J lane r e rest = elim (is_in_lane lane q) as
+        (λ c. is_in_lane lane q ≡ c → cond c (Some q) (last_of J lane) ≡ Some r → is_in_lane lane r ≡ true) [
+          | true ↦ λ l g. subst (λ a. is_in_lane lane a ≡ true) (some_is q r g) l
+          | false ↦ λ l g. rest g
+        ] refl e
 
 -- a record of the lane with the slot's number is of the batch
 of_number : (b : Batch) (r : Record) → is_in_lane b.lane r ≡ true → (slot_by (Some r)).number ≡ b.number → is_of b r ≡ true
@@ -78,7 +87,8 @@ own_test b r i = grind (arith, i)
 -- what the last record is, by the phase
 pub data LastIs (J : List Record) (b : Batch) : Type 0 where
   nothing_yet : slot_stamp J b.lane ≡ 0 → (slot J b.lane).phase ≡ Idle → LastIs J b
-  of_kind : (kind : ℕ) (r : Record) → record_of kind J b ≡ Some r → slot_stamp J b.lane ≡ stamp_of r → (kind_of r ≡ kind) → (slot J b.lane).phase ≡ (slot_by (Some r)).phase → LastIs J b
+  of_kind : (kind : ℕ) (r : Record) → record_of kind J b ≡ Some r → slot_stamp J b.lane ≡ stamp_of r → (kind_of r ≡ kind)
+      → (slot J b.lane).phase ≡ (slot_by (Some r)).phase → LastIs J b
 
 pub last_is : (J : List Record) (b : Batch) → (slot J b.lane).number ≡ b.number → LastIs J b
 last_is J b n = elim (last_of J b.lane) as (λ r. last_of J b.lane ≡ r → LastIs J b) [
@@ -86,9 +96,11 @@ last_is J b n = elim (last_of J b.lane) as (λ r. last_of J b.lane ≡ r → Las
   | Some r ↦ λ e. of_record J b r e (sym (ap (λ s. s.number) (slot_is J b.lane ∙ ap slot_by e)) ∙ n) (last_in_lane J b.lane r e)
 ] refl
   where
-    of_record : (J : List Record) (b : Batch) (r : Record) → last_of J b.lane ≡ Some r → (slot_by (Some r)).number ≡ b.number → is_in_lane b.lane r ≡ true → LastIs J b
+    of_record : (J : List Record) (b : Batch) (r : Record) → last_of J b.lane ≡ Some r → (slot_by (Some r)).number ≡ b.number
+        → is_in_lane b.lane r ≡ true → LastIs J b
     of_record J b r e n l =
-        of_kind (kind_of r) r (last_found J (kind_of r) b r e (own_test b r (of_number b r l n))) (ap stamp_in e) refl (ap (λ s. s.phase) (slot_is J b.lane ∙ ap slot_by e))
+        of_kind (kind_of r) r (last_found J (kind_of r) b r e (own_test b r (of_number b r l n))) (ap stamp_in e) refl
+        (ap (λ s. s.phase) (slot_is J b.lane ∙ ap slot_by e))
 
 -- the kind of the record that leaves a lane in a phase; it is not told of an idle one
 abbrev pub kind_in : Phase → ℕ
@@ -129,14 +141,17 @@ last_stands J b n busy = from (last_is J b n)
     ]
 
 -- and its stamp, by its phase
-pub last_stamped : (J : List Record) (b : Batch) (p : Phase) → (slot J b.lane).phase ≡ p → (l : LastStands J b) → (record_of (kind_in p) J b ≡ Some l.last) × (slot_stamp J b.lane ≡ stamp_in (record_of (kind_in p) J b))
+pub last_stamped : (J : List Record) (b : Batch) (p : Phase) → (slot J b.lane).phase ≡ p → (l : LastStands J b)
+    → (record_of (kind_in p) J b ≡ Some l.last) × (slot_stamp J b.lane ≡ stamp_in (record_of (kind_in p) J b))
 last_stamped J b p e l =
     let stands : record_of (kind_in p) J b ≡ Some l.last = subst (λ q. record_of (kind_in q) J b ≡ Some l.last) e l.stands in
     (stands, l.stamp ∙ ap stamp_in (sym stands))
 
-pub phase_stands : (J : List Record) (b : Batch) → (slot J b.lane).number ≡ b.number → (p : Phase) → (slot J b.lane).phase ≡ p → ((slot J b.lane).phase ≡ Idle → ⊥) → is_some (record_of (kind_in p) J b) ≡ true
+pub phase_stands : (J : List Record) (b : Batch) → (slot J b.lane).number ≡ b.number → (p : Phase) → (slot J b.lane).phase ≡ p
+    → ((slot J b.lane).phase ≡ Idle → ⊥) → is_some (record_of (kind_in p) J b) ≡ true
 phase_stands J b n p e busy = ap is_some (last_stamped J b p e (last_stands J b n busy)).0
 
-pub phase_stamp : (J : List Record) (b : Batch) → (slot J b.lane).number ≡ b.number → (p : Phase) → (slot J b.lane).phase ≡ p → ((slot J b.lane).phase ≡ Idle → ⊥)
+pub phase_stamp : (J : List Record) (b : Batch) → (slot J b.lane).number ≡ b.number → (p : Phase) → (slot J b.lane).phase ≡ p
+    → ((slot J b.lane).phase ≡ Idle → ⊥)
     → slot_stamp J b.lane ≡ stamp_in (record_of (kind_in p) J b)
 phase_stamp J b n p e busy = (last_stamped J b p e (last_stands J b n busy)).1

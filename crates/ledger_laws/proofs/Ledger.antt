@@ -116,7 +116,8 @@ module _ (K : Shape) (minting : Minted) where
       never_ends [] J f e = f e
       never_ends (r ∷ more) J f e = let z : r ∷ (more ++ J) ≡ [] = e in cc
 
-  pub next_behind : (n : ℕ) (rest : List Record) (r : Record) → IsEnd (first_of K minting n) rest → After (header_of K minting.id n) rest r → Next K n rest r
+  pub next_behind : (n : ℕ) (rest : List Record) (r : Record) → IsEnd (first_of K minting n) rest → After (header_of K minting.id n) rest r
+      → Next K n rest r
   next_behind n rest r h after = next_of K minting.id n rest r (λ lt e. some_behind n rest h lt e) after
 
   pub steady_lists : (P : Compact → Type 0) (X : ℕ → List Record) → KeptLists K minting P X → SteadyLists K minting P X

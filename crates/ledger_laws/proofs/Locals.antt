@@ -1,9 +1,11 @@
 -- Records that are each next and caused, put in order of stamp and node, are a kept history.
-use Rattle.std.proofs.Common.{◌≡◌, inl, inr, ℕ, ◌<◌, ◌≤◌, ◌/◌, true, false, ◌&&◌, ◌||◌, ◌==◌, nat_lt, List, [], ◌∷◌, ◌++◌, Option, Some, refl, sym, ap, ◌∙◌, subst, arith}
+use Rattle.std.proofs.Common.{◌≡◌, inl, inr, ℕ, ◌<◌, ◌≤◌, ◌/◌, true, false, ◌&&◌, ◌||◌, ◌==◌, nat_lt, List, [], ◌∷◌, ◌++◌, Option, Some, refl, sym}
+use Rattle.std.proofs.Common.{ap, ◌∙◌, subst, arith}
 use Rattle.cbdc_model.specs.Causes.{greatest, at_shards, IsCaused}
 use Rattle.cbdc_model.specs.History.{first_rows, goes_above, IsOrdered, Minted}
 use Rattle.cbdc_model.specs.Ranges.{shard_node}
-use Rattle.cbdc_model.specs.Records.{Shape, Batch, Compact, Record, Row, journal, record_of, kind_of, is_of, stamp_of, stamp_in, Lock, Finish, Forget, Commit, Discard, Done}
+use Rattle.cbdc_model.specs.Records.{Shape, Batch, Compact, Record, Row, journal, record_of, kind_of, is_of, stamp_of, stamp_in, Lock, Finish, Forget}
+use Rattle.cbdc_model.specs.Records.{Commit, Discard, Done}
 use Rattle.cbdc_model.specs.World.{replaced}
 use Rattle.ledger_laws.proofs.Cuts.{cons_same, replaced_at, replaced_away}
 use Rattle.ledger_laws.proofs.Ledger.{EachSteady}
@@ -38,7 +40,8 @@ module _ (K : Shape) (n : ℕ) (r : Record) (I J : ℕ → List Record) (next : 
       → (s : ℕ) → at_shards K I kind c s ≡ at_shards K J kind c s
   older_shards kind c stamp le lt s = elim (at_node n (shard_node K s)) [
     | away e ↦ ap (λ L. record_of kind L c) (others (shard_node K s) e)
-    | at e ↦ older kind (shard_node K s) c (omega (arith, greatest_bound (λ s. stamp_in (at_shards K I kind c s)) K.shards s (in_range K n (J n) r next s e)))
+    | at e ↦ older kind (shard_node K s) c (omega
+        (arith, greatest_bound (λ s. stamp_in (at_shards K I kind c s)) K.shards s (in_range K n (J n) r next s e)))
   ]
 
   module _ (m : ℕ) (apart : (n == m) ≡ false) where
@@ -61,12 +64,14 @@ above_stamp a b h = above_numbers (stamp_of a.what) (stamp_of b.what) a.node b.n
     above_numbers p q u v h = grind arith
 
 -- a record of a journal stands in the list
-in_list : (rows : List Row) (n : ℕ) (newer rest : List Record) (r : Record) → journal n rows ≡ newer ++ r ∷ rest → In (record { node = n; what = r }) rows
+in_list : (rows : List Row) (n : ℕ) (newer rest : List Record) (r : Record) → journal n rows ≡ newer ++ r ∷ rest
+    → In (record { node = n; what = r }) rows
 in_list [] n [] rest r e = absurd (let z : [] ≡ r ∷ rest = e in cc)
 in_list [] n (q ∷ newer) rest r e = absurd (let z : [] ≡ q ∷ (newer ++ r ∷ rest) = e in cc)
 in_list (row ∷ rows) n [] rest r e = elim (at_node row.node n) [
   | away a ↦ inr (in_list rows n [] rest r (sym (head_away row rows n a) ∙ e))
-  | at a ↦ inl (row_same (record { node = n; what = r }) row (sym a) (sym (cons_same row.what r (journal n rows) rest (sym (head_at row rows n a) ∙ e)).0))
+  | at a ↦ inl (row_same (record { node = n; what = r }) row (sym a)
+      (sym (cons_same row.what r (journal n rows) rest (sym (head_at row rows n a) ∙ e)).0))
 ]
 in_list (row ∷ rows) n (q ∷ newer) rest r e = elim (at_node row.node n) [
   | away a ↦ inr (in_list rows n (q ∷ newer) rest r (sym (head_away row rows n a) ∙ e))
@@ -91,17 +96,21 @@ module _ (K : Shape) (minting : Minted) (P : Compact → Type 0) where
       own_is row later = sym (journal-append row.node later (first_rows K minting))
 
       head_next : (row : Row) (later : List Row) → EachSteady K minting P (row ∷ later) → Next K row.node (journal row.node (whole later)) row.what
-      head_next row later each = subst (λ J. Next K row.node J row.what) (own_is row later) (each row.node [] (journal row.node later) row.what (head_at row later row.node refl)).0
+      head_next row later each = subst (λ J. Next K row.node J row.what) (own_is row later)
+          (each row.node [] (journal row.node later) row.what (head_at row later row.node refl)).0
 
       without : (row : Row) (later : List Row) (m : ℕ)
-          → replaced (λ m. journal m (whole (row ∷ later))) row.node (journal row.node later ++ journal row.node (first_rows K minting)) m ≡ journal m (whole later)
+          → replaced (λ m. journal m (whole (row ∷ later))) row.node (journal row.node later ++ journal row.node (first_rows K minting)) m
+          ≡ journal m (whole later)
       without row later m = elim (at_node row.node m) [
         | at e ↦ replaced_at (λ m. journal m (whole (row ∷ later))) row.node _ m e ∙ own_is row later ∙ ap (λ k. journal k (whole later)) e
         | away e ↦ replaced_away (λ m. journal m (whole (row ∷ later))) row.node _ m e ∙ head_away row (whole later) m e
       ]
 
-      head_caused : (row : Row) (later : List Row) → EachSteady K minting P (row ∷ later) → IsCaused K (λ n. journal n (whole later)) row.node row.what
-      head_caused row later each = subst (λ J. IsCaused K J row.node row.what) (λ i m. without row later m i) (each row.node [] (journal row.node later) row.what (head_at row later row.node refl)).1
+      head_caused : (row : Row) (later : List Row) → EachSteady K minting P (row ∷ later)
+          → IsCaused K (λ n. journal n (whole later)) row.node row.what
+      head_caused row later each = subst (λ J. IsCaused K J row.node row.what) (λ i m. without row later m i)
+          (each row.node [] (journal row.node later) row.what (head_at row later row.node refl)).1
 
       rest_each : (row : Row) (later : List Row) → IsOrdered (row ∷ later) → EachSteady K minting P (row ∷ later) → EachSteady K minting P later
       rest_each row later ordered each n newer rest r e = elim (at_node row.node n) [
@@ -114,11 +123,13 @@ module _ (K : Shape) (minting : Minted) (P : Compact → Type 0) where
               was_caused_there K row.node row.what
                   (replaced (λ m. journal m (whole (row ∷ later))) n (rest ++ journal n (first_rows K minting)))
                   (replaced (λ m. journal m (whole later)) n (rest ++ journal n (first_rows K minting)))
-                  (subst (λ J. Next K row.node J row.what) (sym (replaced_away (λ m. journal m (whole later)) n _ row.node (turned a))) (head_next row later each))
+                  (subst (λ J. Next K row.node J row.what) (sym (replaced_away (λ m. journal m (whole later)) n _ row.node (turned a)))
+                  (head_next row later each))
                   (replaced_away (λ m. journal m (whole (row ∷ later))) n _ row.node (turned a) ∙ head_at row (whole later) row.node refl
                   ∙ ap (λ J. row.what ∷ J) (sym (replaced_away (λ m. journal m (whole later)) n _ row.node (turned a))))
                   (λ k b. other_node k b)
-                  n a r (above_stamp row (record { node = n; what = r }) (above_all row later ordered.0 ordered.1 (record { node = n; what = r }) (in_list later n newer rest r e)))
+                  n a r (above_stamp row (record { node = n; what = r })
+                  (above_all row later ordered.0 ordered.1 (record { node = n; what = r }) (in_list later n newer rest r e)))
                   (subst (λ J. Next K n J r) (sym (replaced_at (λ m. journal m (whole (row ∷ later))) n _ n refl)) f.0) f.1,
               f.2,
               f.3,
@@ -129,15 +140,19 @@ module _ (K : Shape) (minting : Minted) (P : Compact → Type 0) where
           turned h = grind arith
 
           same_node : row.node ≡ n → (m : ℕ)
-              → replaced (λ m. journal m (whole (row ∷ later))) n (rest ++ journal n (first_rows K minting)) m ≡ replaced (λ m. journal m (whole later)) n (rest ++ journal n (first_rows K minting)) m
+              → replaced (λ m. journal m (whole (row ∷ later))) n (rest ++ journal n (first_rows K minting)) m
+              ≡ replaced (λ m. journal m (whole later)) n (rest ++ journal n (first_rows K minting)) m
           same_node a m = elim (at_node n m) [
             | at b ↦ replaced_at (λ m. journal m (whole (row ∷ later))) n _ m b ∙ sym (replaced_at (λ m. journal m (whole later)) n _ m b)
-            | away b ↦ replaced_away (λ m. journal m (whole (row ∷ later))) n _ m b ∙ head_away row (whole later) m (subst (λ k. (k == m) ≡ false) (sym a) b) ∙ sym (replaced_away (λ m. journal m (whole later)) n _ m b)
+            | away b ↦ replaced_away (λ m. journal m (whole (row ∷ later))) n _ m b
+                ∙ head_away row (whole later) m (subst (λ k. (k == m) ≡ false) (sym a) b) ∙ sym (replaced_away (λ m. journal m (whole later)) n _ m b)
           ]
 
           other_node : (k : ℕ) → (row.node == k) ≡ false
-              → replaced (λ m. journal m (whole (row ∷ later))) n (rest ++ journal n (first_rows K minting)) k ≡ replaced (λ m. journal m (whole later)) n (rest ++ journal n (first_rows K minting)) k
+              → replaced (λ m. journal m (whole (row ∷ later))) n (rest ++ journal n (first_rows K minting)) k
+              ≡ replaced (λ m. journal m (whole later)) n (rest ++ journal n (first_rows K minting)) k
           other_node k b = elim (at_node n k) [
             | at c ↦ replaced_at (λ m. journal m (whole (row ∷ later))) n _ k c ∙ sym (replaced_at (λ m. journal m (whole later)) n _ k c)
-            | away c ↦ replaced_away (λ m. journal m (whole (row ∷ later))) n _ k c ∙ head_away row (whole later) k b ∙ sym (replaced_away (λ m. journal m (whole later)) n _ k c)
+            | away c ↦ replaced_away (λ m. journal m (whole (row ∷ later))) n _ k c ∙ head_away row (whole later) k b
+                ∙ sym (replaced_away (λ m. journal m (whole later)) n _ k c)
           ]

@@ -1,5 +1,6 @@
 -- What a journal without a record finds of it, and numbers of shards.
-use Rattle.std.proofs.Common.{◌≡◌, ℕ, ◌*◌, ◌/◌, ◌%◌, ◌<◌, ◌==◌, Bool, true, false, List, [], ◌∷◌, Option, Some, None, is_some, slice_index, refl, ap, arith, mul-lt-mul_of_pos_right, div-lt_iff_lt-mul, mod-lt, lit<}
+use Rattle.std.proofs.Common.{◌≡◌, ℕ, ◌*◌, ◌/◌, ◌%◌, ◌<◌, ◌==◌, Bool, true, false, List, [], ◌∷◌, Option, Some, None, is_some, slice_index, refl, ap}
+use Rattle.std.proofs.Common.{arith, mul-lt-mul_of_pos_right, div-lt_iff_lt-mul, mod-lt, lit<}
 use Rattle.cbdc_model.specs.Outcomes.{won_txs}
 use Rattle.cbdc_model.specs.Ranges.{shard_of, first_byte}
 use Rattle.cbdc_model.specs.Records.{Digest, record_of, entries_in, outcomes_in, Batch, Compact, Record, lock_of, outcomes_of}

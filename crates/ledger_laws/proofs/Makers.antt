@@ -47,7 +47,8 @@ commit_makers {v = v} {w = w} {b = b} {ts = ts} step has x n = elim (none_or_som
 
 module _ (K : Shape) (minting : Minted) (P : Compact → Type 0) (shards : 0 < K.shards) (apart : Apart (λ x. count x minting.hashes) P) where
   makers_next : (past : List Row) → Structure K P past → HasMakers (view K past)
-      → (node : ℕ) (r : Record) → Next K node (journal node past) r → IsCaused K (λ n. journal n past) node r → HasMakers (view K (record { node = node; what = r } ∷ past))
+      → (node : ℕ) (r : Record) → Next K node (journal node past) r → IsCaused K (λ n. journal n past) node r
+      → HasMakers (view K (record { node = node; what = r } ∷ past))
   makers_next past st has node r next caused = elim (view_step K P past shards apart st node r next caused) [
     | no_change e ↦ subst HasMakers (sym e) has
     | by_lock b held step ↦ lock_makers step has
@@ -56,12 +57,15 @@ module _ (K : Shape) (minting : Minted) (P : Compact → Type 0) (shards : 0 < K
   ]
 
   kept_makers : (later : List Row) → Steady K minting P later → HasMakers (view K (later ++ first_rows K minting))
-  kept_makers [] kept = λ x n. absurd (let z : count x (all_outputs (committed (first_rows K minting))) ≡ 0 = ap (λ ts. count x (all_outputs ts)) (no_committed (first_rows K minting) (all_first K minting P shards)) in omega arith)
-  kept_makers (row ∷ later) kept = makers_next (later ++ first_rows K minting) (kept_structure K minting P shards apart later kept.3) (kept_makers later kept.3) row.node row.what kept.0 kept.1
+  kept_makers [] kept = λ x n. absurd (let z : count x (all_outputs (committed (first_rows K minting))) ≡ 0 =
+      ap (λ ts. count x (all_outputs ts)) (no_committed (first_rows K minting) (all_first K minting P shards)) in omega arith)
+  kept_makers (row ∷ later) kept = makers_next (later ++ first_rows K minting) (kept_structure K minting P shards apart later kept.3)
+      (kept_makers later kept.3) row.node row.what kept.0 kept.1
 
   pub was_made : (later : List Row) → Steady K minting P later → (x : Digest)
       → (status (journal_at K (later ++ first_rows K minting) x) x ≡ Absent → ⊥)
-      → (0 < count x minting.hashes) ⊎ ((b : Batch) × (0 < count x (all_outputs (won_of K (later ++ first_rows K minting) b))) × (has_finish (journal_at K (later ++ first_rows K minting) x) b ≡ true))
+      → (0 < count x minting.hashes) ⊎ ((b : Batch) × (0 < count x (all_outputs (won_of K (later ++ first_rows K minting) b)))
+      × (has_finish (journal_at K (later ++ first_rows K minting) x) b ≡ true))
   was_made later kept x there = elim (none_or_some (count x minting.hashes)) [
     | some n ↦ inl n
     | none z ↦ inr (of_maker z)
@@ -73,19 +77,24 @@ module _ (K : Shape) (minting : Minted) (P : Compact → Type 0) (shards : 0 < K
       inv : Inv (λ x. count x minting.hashes) P (view K (later ++ first_rows K minting))
       inv = kept_inv K minting P shards apart later kept
 
-      arrived_one : (s : Status) → status (journal_at K (later ++ first_rows K minting) x) x ≡ s → (view K (later ++ first_rows K minting)).arrived x ≡ 1
+      arrived_one : (s : Status) → status (journal_at K (later ++ first_rows K minting) x) x ≡ s
+          → (view K (later ++ first_rows K minting)).arrived x ≡ 1
       arrived_one Unspent e = (inv.unspent x e).0
       arrived_one (Locked b) e = (inv.locked x b e).0
       arrived_one Absent e = absurd (there e)
 
-      of_maker : count x minting.hashes ≡ 0 → (b : Batch) × (0 < count x (all_outputs (won_of K (later ++ first_rows K minting) b))) × (has_finish (journal_at K (later ++ first_rows K minting) x) b ≡ true)
+      of_maker : count x minting.hashes ≡ 0 → (b : Batch) × (0 < count x (all_outputs (won_of K (later ++ first_rows K minting) b)))
+          × (has_finish (journal_at K (later ++ first_rows K minting) x) b ≡ true)
       of_maker z =
-          let one : (view K (later ++ first_rows K minting)).arrived x ≡ 1 = arrived_one (status (journal_at K (later ++ first_rows K minting) x) x) refl in
+          let one : (view K (later ++ first_rows K minting)).arrived x ≡ 1 =
+          arrived_one (status (journal_at K (later ++ first_rows K minting) x) x) refl in
           let m : Maker (view K (later ++ first_rows K minting)) x = kept_makers later kept x (omega (arith, inv.arrived_le x)) in
           (m.batch, m.makes, finished m one)
         where
-          finished : (m : Maker (view K (later ++ first_rows K minting)) x) → (view K (later ++ first_rows K minting)).arrived x ≡ 1 → has_finish (journal_at K (later ++ first_rows K minting) x) m.batch ≡ true
-          finished m one = elim (has_finish (journal_at K (later ++ first_rows K minting) x) m.batch) as (λ c. has_finish (journal_at K (later ++ first_rows K minting) x) m.batch ≡ c → c ≡ true) [
-            | true ↦ λ _. refl
-            | false ↦ λ f. absurd (omega (arith, inv.pending x m.batch m.makes f))
-          ] refl
+          finished : (m : Maker (view K (later ++ first_rows K minting)) x) → (view K (later ++ first_rows K minting)).arrived x ≡ 1
+              → has_finish (journal_at K (later ++ first_rows K minting) x) m.batch ≡ true
+          finished m one = elim (has_finish (journal_at K (later ++ first_rows K minting) x) m.batch) as
+              (λ c. has_finish (journal_at K (later ++ first_rows K minting) x) m.batch ≡ c → c ≡ true) [
+                | true ↦ λ _. refl
+                | false ↦ λ f. absurd (omega (arith, inv.pending x m.batch m.makes f))
+              ] refl

@@ -1,5 +1,6 @@
 -- What Clean says of coins and of compact transactions.
-use Rattle.std.proofs.Common.{◌≡◌, ◌⊎◌, inl, inr, ℕ, zero, suc, ◌<◌, ◌≤◌, true, false, List, [], ◌∷◌, map, length, slice_index_or, Contains, bytes_eq, refl, sym, ap, ◌∙◌, subst, arith}
+use Rattle.std.proofs.Common.{◌≡◌, ◌⊎◌, inl, inr, ℕ, zero, suc, ◌<◌, ◌≤◌, true, false, List, [], ◌∷◌, map, length, slice_index_or, Contains, bytes_eq}
+use Rattle.std.proofs.Common.{refl, sym, ap, ◌∙◌, subst, arith}
 use Rattle.std.specs.List.{IsDistinct, AllByRecursion}
 use Rattle.std.proofs.lemmas.Slice.Eq.{bytes_eq-Decides}
 use Rattle.cbdc_model.specs.Clean.{IsMember, IsNamed, Clean, IsProper, IsProperCompact}
@@ -48,13 +49,16 @@ made_tx id k [] c h = absurd h
 made_tx id k (o ∷ os) c (inl e) = (ap (λ d. d.point.tx) e, (let i : c.point.index ≡ k = ap (λ d. d.point.index) e in omega arith))
 made_tx id k (o ∷ os) c (inr h) = let r : (c.point.tx ≡ id) × (suc k ≤ c.point.index) = made_tx id (suc k) os c h in (r.0, omega arith)
 
-pub made_same : (id : Digest) (k : ℕ) (os : List Output) (c d : Coin) → In c (made_coins id k os) → In d (made_coins id k os) → c.point.index ≡ d.point.index → c ≡ d
+pub made_same : (id : Digest) (k : ℕ) (os : List Output) (c d : Coin) → In c (made_coins id k os) → In d (made_coins id k os)
+    → c.point.index ≡ d.point.index → c ≡ d
 made_same id k [] c d h g i = absurd h
 made_same id k (o ∷ os) c d (inl e) (inl f) i = e ∙ sym f
 made_same id k (o ∷ os) c d (inl e) (inr g) i =
-    absurd (let r : (d.point.tx ≡ id) × (suc k ≤ d.point.index) = made_tx id (suc k) os d g in let j : c.point.index ≡ k = ap (λ d. d.point.index) e in omega arith)
+    absurd (let r : (d.point.tx ≡ id) × (suc k ≤ d.point.index) = made_tx id (suc k) os d g in let j : c.point.index ≡ k = ap (λ d. d.point.index) e
+    in omega arith)
 made_same id k (o ∷ os) c d (inr h) (inl f) i =
-    absurd (let r : (c.point.tx ≡ id) × (suc k ≤ c.point.index) = made_tx id (suc k) os c h in let j : d.point.index ≡ k = ap (λ d. d.point.index) f in omega arith)
+    absurd (let r : (c.point.tx ≡ id) × (suc k ≤ c.point.index) = made_tx id (suc k) os c h in let j : d.point.index ≡ k = ap (λ d. d.point.index) f
+    in omega arith)
 made_same id k (o ∷ os) c d (inr h) (inr g) i = made_same id (suc k) os c d h g i
 
 abbrev record_coin : Digest → ℕ → Output → Coin
@@ -90,7 +94,8 @@ module _ (mint : List Output) (txs : List FullTx) (clean : Clean mint txs) where
     same_hash = clean.hashes;
     made_named = λ c m. (m.0, m.1, inr (contains_in (tx_coins m.0) c m.2));
     same_point = λ c d m n e.
-        let ids : tx_id m.0 ≡ tx_id n.0 = sym (made_tx (tx_id m.0) 0 m.0.outputs c m.2).0 ∙ point_tx c d e ∙ (made_tx (tx_id n.0) 0 n.0.outputs d n.2).0 in
+        let ids : tx_id m.0 ≡ tx_id n.0 = sym (made_tx (tx_id m.0) 0 m.0.outputs c m.2).0 ∙ point_tx c d e
+        ∙ (made_tx (tx_id n.0) 0 n.0.outputs d n.2).0 in
         let same : (m.0.inputs ≡ n.0.inputs) × (m.0.outputs ≡ n.0.outputs) = clean.ids m.0 n.0 m.1 n.1 ids in
         made_same (tx_id n.0) 0 n.0.outputs c d (subst (λ cs. In c cs) (same_made m.0 n.0 same.0 same.1) m.2) n.2 (point_index c d e);
   }
@@ -102,7 +107,8 @@ module _ (mint : List Output) (txs : List FullTx) (clean : Clean mint txs) where
       point_index c d e = cc
 
   -- coins of one transaction have their hashes once
-  made_once : (t : FullTx) → IsMember mint txs t → (id : Digest) (k : ℕ) (os : List Output) → ((c : Coin) → In c (made_coins id k os) → In c (tx_coins t))
+  made_once : (t : FullTx) → IsMember mint txs t → (id : Digest) (k : ℕ) (os : List Output)
+      → ((c : Coin) → In c (made_coins id k os) → In c (tx_coins t))
       → (x : Digest) → count x (hashes_of (made_coins id k os)) ≤ 1
   made_once t m id k [] all x = omega arith
   made_once t m id k (o ∷ os) all x =
@@ -119,7 +125,8 @@ module _ (mint : List Output) (txs : List FullTx) (clean : Clean mint txs) where
   pub tx_coins_once : (t : FullTx) → IsMember mint txs t → (x : Digest) → count x (hashes_of (tx_coins t)) ≤ 1
   tx_coins_once t m x = made_once t m (tx_id t) 0 t.outputs (λ c h. h) x
 
-  distinct_first : (c : Coin) (cs : List Coin) → AllByRecursion (λ q. bytes_eq (point_of c) q ≡ false) (map point_of cs) → (d : Coin) → In d cs → c ≡ d → ⊥
+  distinct_first : (c : Coin) (cs : List Coin) → AllByRecursion (λ q. bytes_eq (point_of c) q ≡ false) (map point_of cs) → (d : Coin) → In d cs
+      → c ≡ d → ⊥
   distinct_first c [] all d h e = h
   distinct_first c (b ∷ cs) all d (inl f) e =
       let t : bytes_eq (point_of c) (point_of b) ≡ true = (bytes_eq-Decides (point_of c) (point_of b)).1 (ap point_of (e ∙ f)) in
@@ -153,13 +160,16 @@ module _ (mint : List Output) (txs : List FullTx) (clean : Clean mint txs) where
       first_counts y ys = count_first y ys
 
   -- two members that share an output's hash are one
-  same_output_tx : (t u : FullTx) → IsMember mint txs t → IsMember mint txs u → (x : Digest) → 0 < count x (hashes_of (tx_coins t)) → 0 < count x (hashes_of (tx_coins u))
+  same_output_tx : (t u : FullTx) → IsMember mint txs t → IsMember mint txs u → (x : Digest) → 0 < count x (hashes_of (tx_coins t))
+      → 0 < count x (hashes_of (tx_coins u))
       → (t.inputs ≡ u.inputs) × (t.outputs ≡ u.outputs)
   same_output_tx t u m n x h k =
       let a : CoinAt (tx_coins t) x = coin_at (tx_coins t) x h in
       let b : CoinAt (tx_coins u) x = coin_at (tx_coins u) x k in
-      let same : a.coin ≡ b.coin = clean.hashes a.coin b.coin (t, m, inr (contains_in (tx_coins t) a.coin a.inside)) (u, n, inr (contains_in (tx_coins u) b.coin b.inside)) (a.hash ∙ sym b.hash) in
-      clean.ids t u m n (sym (made_tx (tx_id t) 0 t.outputs a.coin a.inside).0 ∙ ap (λ c. c.point.tx) same ∙ (made_tx (tx_id u) 0 u.outputs b.coin b.inside).0)
+      let same : a.coin ≡ b.coin = clean.hashes a.coin b.coin (t, m, inr (contains_in (tx_coins t) a.coin a.inside))
+      (u, n, inr (contains_in (tx_coins u) b.coin b.inside)) (a.hash ∙ sym b.hash) in
+      clean.ids t u m n (sym (made_tx (tx_id t) 0 t.outputs a.coin a.inside).0 ∙ ap (λ c. c.point.tx) same
+      ∙ (made_tx (tx_id u) 0 u.outputs b.coin b.inside).0)
 
   pub genesis_member : IsMember mint txs (genesis_tx mint)
   genesis_member = inl refl
@@ -168,7 +178,8 @@ module _ (mint : List Output) (txs : List FullTx) (clean : Clean mint txs) where
   apart = record {
     one_owner = λ k l x p q h g.
         let same : (p.0.inputs ≡ q.0.inputs) × (p.0.outputs ≡ q.0.outputs)
-        = same_output_tx p.0 q.0 (inr p.1) (inr q.1) x (subst (λ j. 0 < count x j.outputs) (sym p.3) h) (subst (λ j. 0 < count x j.outputs) (sym q.3) g) in
+        = same_output_tx p.0 q.0 (inr p.1) (inr q.1) x (subst (λ j. 0 < count x j.outputs) (sym p.3) h)
+        (subst (λ j. 0 < count x j.outputs) (sym q.3) g) in
         sym p.3 ∙ same_compact_form p.0 q.0 same.0 same.1 ∙ q.3;
     not_genesis = λ k x p h. no_genesis k x p h;
     first_input = λ k. head_or_zero k.inputs;
@@ -179,7 +190,11 @@ module _ (mint : List Output) (txs : List FullTx) (clean : Clean mint txs) where
   }
     where
       same_compact_form : (t u : FullTx) → t.inputs ≡ u.inputs → t.outputs ≡ u.outputs → compact t ≡ compact u
-      same_compact_form t u i o = λ j. record { id = id_of (i j) (o j); inputs = hashes_of (i j); outputs = hashes_of (made_coins (id_of (i j) (o j)) 0 (o j)) }
+      same_compact_form t u i o = λ j. record {
+        id = id_of (i j) (o j);
+        inputs = hashes_of (i j);
+        outputs = hashes_of (made_coins (id_of (i j) (o j)) 0 (o j));
+      }
 
       no_inputs : (t : FullTx) → IsProper t → t.inputs ≡ [] → ⊥
       no_inputs t p e = let z : length t.inputs ≡ 0 = ap length e in omega (arith, p.has_input)

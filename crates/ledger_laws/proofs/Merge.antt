@@ -1,5 +1,6 @@
 -- Journals whose stamps rise have a history in order of stamp and node.
-use Rattle.std.proofs.Common.{◌≡◌, ℕ, zero, suc, ◌<◌, ◌≤◌, true, false, ◌&&◌, ◌||◌, ◌==◌, nat_lt, if◌then◌else◌, List, [], ◌∷◌, refl, sym, ap, ◌∙◌, subst, arith}
+use Rattle.std.proofs.Common.{◌≡◌, ℕ, zero, suc, ◌<◌, ◌≤◌, true, false, ◌&&◌, ◌||◌, ◌==◌, nat_lt, if◌then◌else◌, List, [], ◌∷◌, refl, sym, ap, ◌∙◌}
+use Rattle.std.proofs.Common.{subst, arith}
 use Rattle.cbdc_model.specs.History.{goes_above, IsOrdered}
 use Rattle.cbdc_model.specs.Records.{Record, Row, journal, stamp_of}
 use Rattle.ledger_laws.proofs.Worlds.{insert_row, above_inserted}
@@ -42,7 +43,8 @@ goes_below row head h apart = numbers (stamp_of row.what) (stamp_of head.what) r
     numbers : (p q u v : ℕ) → (nat_lt q p || ((q == p) && nat_lt v u)) ≡ false → (v == u) ≡ false → (nat_lt p q || ((p == q) && nat_lt u v)) ≡ true
     numbers p q u v h apart = grind arith
 
-below_head : (row head : Row) (later : List Row) → AllBelow (journal row.node (head ∷ later)) (stamp_of row.what) → goes_above row head ≡ false → (head.node == row.node) ≡ false
+below_head : (row head : Row) (later : List Row) → AllBelow (journal row.node (head ∷ later)) (stamp_of row.what) → goes_above row head ≡ false
+    → (head.node == row.node) ≡ false
 below_head row head later h g = elim (at_node head.node row.node) [
   | away a ↦ a
   | at a ↦ absurd (
@@ -50,23 +52,28 @@ below_head row head later h g = elim (at_node head.node row.node) [
       let z : true ≡ false = sym (goes row head lt) ∙ g in cc)
 ]
 
-below_tail : (row head : Row) (later : List Row) → AllBelow (journal row.node (head ∷ later)) (stamp_of row.what) → AllBelow (journal row.node later) (stamp_of row.what)
+below_tail : (row head : Row) (later : List Row) → AllBelow (journal row.node (head ∷ later)) (stamp_of row.what)
+    → AllBelow (journal row.node later) (stamp_of row.what)
 below_tail row head later h = elim (at_node head.node row.node) [
   | away a ↦ subst (λ J. AllBelow J (stamp_of row.what)) (head_away head later row.node a) h
   | at a ↦ (subst (λ J. AllBelow J (stamp_of row.what)) (head_at head later row.node a) h).1
 ]
 
-pub insert_at : (row : Row) (later : List Row) → AllBelow (journal row.node later) (stamp_of row.what) → journal row.node (insert_row row later) ≡ row.what ∷ journal row.node later
+pub insert_at : (row : Row) (later : List Row) → AllBelow (journal row.node later) (stamp_of row.what)
+    → journal row.node (insert_row row later) ≡ row.what ∷ journal row.node later
 insert_at row [] h = head_at row [] row.node refl
 insert_at row (head ∷ later) h =
-    elim (goes_above row head) as (λ c. goes_above row head ≡ c → journal row.node (if c then row ∷ head ∷ later else head ∷ insert_row row later) ≡ row.what ∷ journal row.node (head ∷ later)) [
+    elim (goes_above row head) as (λ c. goes_above row head ≡ c
+    → journal row.node (if c then row ∷ head ∷ later else head ∷ insert_row row later) ≡ row.what ∷ journal row.node (head ∷ later)) [
       | true ↦ λ g. head_at row (head ∷ later) row.node refl
       | false ↦ λ g.
           let apart : (head.node == row.node) ≡ false = below_head row head later h g in
-          head_away head (insert_row row later) row.node apart ∙ insert_at row later (below_tail row head later h) ∙ ap (λ J. row.what ∷ J) (sym (head_away head later row.node apart))
+          head_away head (insert_row row later) row.node apart ∙ insert_at row later (below_tail row head later h)
+          ∙ ap (λ J. row.what ∷ J) (sym (head_away head later row.node apart))
     ] refl
 
-pub insert_ordered : (row : Row) (later : List Row) → AllBelow (journal row.node later) (stamp_of row.what) → IsOrdered later → IsOrdered (insert_row row later)
+pub insert_ordered : (row : Row) (later : List Row) → AllBelow (journal row.node later) (stamp_of row.what) → IsOrdered later
+    → IsOrdered (insert_row row later)
 insert_ordered row [] h o = (tt, tt)
 insert_ordered row (head ∷ later) h o =
     elim (goes_above row head) as (λ c. goes_above row head ≡ c → IsOrdered (if c then row ∷ head ∷ later else head ∷ insert_row row later)) [
@@ -86,7 +93,8 @@ put_away : (n : ℕ) (J : List Record) (later : List Row) (m : ℕ) → (n == m)
 put_away n [] later m e = refl
 put_away n (r ∷ J) later m e = insert_away (record { node = n; what = r }) (put n J later) m e ∙ put_away n J later m e
 
-put_at : (n : ℕ) (J : List Record) (later : List Row) → journal n later ≡ [] → Rising J → (journal n (put n J later) ≡ J) × (IsOrdered later → IsOrdered (put n J later))
+put_at : (n : ℕ) (J : List Record) (later : List Row) → journal n later ≡ [] → Rising J
+    → (journal n (put n J later) ≡ J) × (IsOrdered later → IsOrdered (put n J later))
 put_at n [] later e h = (e, λ o. o)
 put_at n (r ∷ J) later e h =
     let f = put_at n J later e h.1 in

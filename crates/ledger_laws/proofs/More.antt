@@ -39,7 +39,8 @@ module _ (K : Shape) (node : ℕ) (past : List Record) (ok : JournalOk past) (mo
     ] refl
   ]
 
-  in_finish_next : (r : Record) → Next K node past r → (b : Batch) → (slot (r ∷ past) b.lane).phase ≡ InFinish → (slot (r ∷ past) b.lane).number ≡ b.number
+  in_finish_next : (r : Record) → Next K node past r → (b : Batch) → (slot (r ∷ past) b.lane).phase ≡ InFinish
+      → (slot (r ∷ past) b.lane).number ≡ b.number
       → (has_lock (r ∷ past) b ≡ true) × (has_forget (r ∷ past) b ≡ false)
   in_finish_next (Genesis header hs) next b p n = absurd next
   in_finish_next (Start header) next b p n = absurd next
@@ -57,7 +58,8 @@ module _ (K : Shape) (node : ℕ) (past : List Record) (ok : JournalOk past) (mo
     ] refl
   ]
 
-  in_commit_next : (r : Record) → Next K node past r → (b : Batch) → (slot (r ∷ past) b.lane).phase ≡ InCommit → (slot (r ∷ past) b.lane).number ≡ b.number
+  in_commit_next : (r : Record) → Next K node past r → (b : Batch) → (slot (r ∷ past) b.lane).phase ≡ InCommit
+      → (slot (r ∷ past) b.lane).number ≡ b.number
       → (has_discard (r ∷ past) b ≡ false) × (has_done (r ∷ past) b ≡ false)
   in_commit_next (Genesis header hs) next b p n = absurd next
   in_commit_next (Start header) next b p n = absurd next

@@ -1,10 +1,13 @@
 -- A caused record stays caused while other nodes' journals grow, and was caused before records of no smaller stamp came.
-use Rattle.std.proofs.Common.{◌≡◌, ◌⊎◌, inl, inr, ℕ, zero, suc, ◌<◌, ◌≤◌, ◌/◌, max, true, false, ◌&&◌, ◌==◌, List, [], ◌∷◌, ◌++◌, length, Option, Some, is_some, refl, sym, ap, ◌∙◌, subst, arith}
+use Rattle.std.proofs.Common.{◌≡◌, ◌⊎◌, inl, inr, ℕ, zero, suc, ◌<◌, ◌≤◌, ◌/◌, max, true, false, ◌&&◌, ◌==◌, List, [], ◌∷◌, ◌++◌, length, Option}
+use Rattle.std.proofs.Common.{Some, is_some, refl, sym, ap, ◌∙◌, subst, arith}
 use Rattle.cbdc_model.specs.Causes.{greatest, at_shards, AllHave, IsStamped, IsCaused}
 use Rattle.cbdc_model.specs.History.{first_rows, Minted}
 use Rattle.cbdc_model.specs.Outcomes.{outcomes, decisions}
 use Rattle.cbdc_model.specs.Ranges.{shard_node, part, Concerned, is_no_part}
-use Rattle.cbdc_model.specs.Records.{Shape, Batch, same_batch, Compact, Answered, Entry, Record, Row, journal, record_of, kind_of, is_of, stamp_of, stamp_in, entries_in, txs_in, outcomes_in, last_stamp, Genesis, Lock, Finish, Forget, Start, Prepare, Commit, Discard, Done, lock_of, txs_of}
+use Rattle.cbdc_model.specs.Records.{Shape, Batch, same_batch, Compact, Answered, Entry, Record, Row, journal, record_of, kind_of, is_of, stamp_of}
+use Rattle.cbdc_model.specs.Records.{stamp_in, entries_in, txs_in, outcomes_in, last_stamp, Genesis, Lock, Finish, Forget, Start, Prepare, Commit}
+use Rattle.cbdc_model.specs.Records.{Discard, Done, lock_of, txs_of}
 use Rattle.cbdc_model.specs.Replies.{entries}
 use Rattle.cbdc_model.specs.Slots.{slot, Idle, InFinish}
 use Rattle.ledger_laws.proofs.Next.{Next, has_lock, Steady}
@@ -19,12 +22,14 @@ use Rattle.ledger_laws.proofs.First.{nothing, first_structure, AllFirst, journal
 
 -- each kind of record of a batch comes once in a journal
 module _ (K : Shape) (node : ℕ) (J : List Record) (ok : JournalOk J) (more : MoreOk J) where
-  new_one : (k kind : ℕ) (b c : Batch) → ((k == kind) && same_batch b c) ≡ true → (is_some (record_of k J b) ≡ true → ⊥) → is_some (record_of kind J c) ≡ true → ⊥
+  new_one : (k kind : ℕ) (b c : Batch) → ((k == kind) && same_batch b c) ≡ true → (is_some (record_of k J b) ≡ true → ⊥)
+      → is_some (record_of kind J c) ≡ true → ⊥
   new_one k kind b c h none found =
       let s : (k ≡ kind) × (b ≡ c) = split_test k kind b c h in
       none (subst (λ d. is_some (record_of k J d) ≡ true) (sym s.1) (subst (λ n. is_some (record_of n J c) ≡ true) (sym s.0) found))
 
-  pub once : (r : Record) → Next K node J r → (kind : ℕ) (c : Batch) → ((kind_of r == kind) && is_of c r) ≡ true → is_some (record_of kind J c) ≡ true → ⊥
+  pub once : (r : Record) → Next K node J r → (kind : ℕ) (c : Batch) → ((kind_of r == kind) && is_of c r) ≡ true
+      → is_some (record_of kind J c) ≡ true → ⊥
   once (Genesis header hs) next kind c h = absurd next
   once (Start header) next kind c h = absurd next
   once (Lock stamp b es) next kind c h = new_one 2 kind b c h (λ f. omega (arith, ok.lock_below b f, next.3))
@@ -36,10 +41,12 @@ module _ (K : Shape) (node : ℕ) (J : List Record) (ok : JournalOk J) (more : M
   once (Done stamp b) next kind c h = new_one 9 kind b c h (λ f. true_false _ f (more.in_discard b next.3 next.4))
 
   -- a shard's record of a batch is of one that was locked there, or is its Lock
-  pub locked_before : (r : Record) → Next K node J r → (kind : ℕ) (c : Batch) → ((kind_of r == kind) && is_of c r) ≡ true → (kind ≡ 3) ⊎ (kind ≡ 4) → has_lock J c ≡ true
+  pub locked_before : (r : Record) → Next K node J r → (kind : ℕ) (c : Batch) → ((kind_of r == kind) && is_of c r) ≡ true → (kind ≡ 3) ⊎ (kind ≡ 4)
+      → has_lock J c ≡ true
   locked_before r next kind c h which = of_record r next kind c h which
     where
-      of_record : (r : Record) → Next K node J r → (kind : ℕ) (c : Batch) → ((kind_of r == kind) && is_of c r) ≡ true → (kind ≡ 3) ⊎ (kind ≡ 4) → has_lock J c ≡ true
+      of_record : (r : Record) → Next K node J r → (kind : ℕ) (c : Batch) → ((kind_of r == kind) && is_of c r) ≡ true → (kind ≡ 3) ⊎ (kind ≡ 4)
+          → has_lock J c ≡ true
       of_record (Finish stamp b ds) next kind c h which = subst (λ d. has_lock J d ≡ true) (split_test 3 kind b c h).1 (ok.locked b next.2 next.3).0
       of_record (Forget stamp b) next kind c h which = subst (λ d. has_lock J d ≡ true) (split_test 4 kind b c h).1 (more.in_finish b next.2 next.3).0
       of_record other next kind c h which = absurd (let k : kind_of other ≡ kind = test_kind kind c other h in grind (arith, k, which))
@@ -54,12 +61,14 @@ SameCauses K I J (Discard stamp b) = (I (b.lane / K.lanes) ≡ J (b.lane / K.lan
 SameCauses K I J (Done stamp b) = (I (b.lane / K.lanes) ≡ J (b.lane / K.lanes)) × ((s : ℕ) → at_shards K I 4 b s ≡ at_shards K J 4 b s)
 SameCauses K I J other = Unit {0}
 
-all_have_same : (K : Shape) (I J : ℕ → List Record) (kind : ℕ) (b : Batch) → I (b.lane / K.lanes) ≡ J (b.lane / K.lanes) → ((s : ℕ) → at_shards K I kind b s ≡ at_shards K J kind b s)
+all_have_same : (K : Shape) (I J : ℕ → List Record) (kind : ℕ) (b : Batch) → I (b.lane / K.lanes) ≡ J (b.lane / K.lanes)
+    → ((s : ℕ) → at_shards K I kind b s ≡ at_shards K J kind b s)
     → AllHave K I kind b → AllHave K J kind b
 all_have_same K I J kind b lane shards h s c =
     subst (λ r. is_some r ≡ true) (shards s) (h s (subst (λ own. Concerned K (txs_of own b) s) (sym lane) c))
 
-pub caused_same : (K : Shape) (I J : ℕ → List Record) (node : ℕ) (r : Record) → I node ≡ J node → SameCauses K I J r → IsCaused K I node r → IsCaused K J node r
+pub caused_same : (K : Shape) (I J : ℕ → List Record) (node : ℕ) (r : Record) → I node ≡ J node → SameCauses K I J r → IsCaused K I node r
+    → IsCaused K J node r
 caused_same K I J node (Genesis header hs) own same c = tt
 caused_same K I J node (Start header) own same c = tt
 caused_same K I J node (Prepare stamp b txs) own same c = subst (λ o. IsStamped stamp o 0) own c
@@ -111,10 +120,12 @@ module _ (K : Shape) (P : Compact → Type 0) (past : List Row) (st : Structure 
         ] refl
   ]
 
-  pub concerned_lock : (s : ℕ) (c : Batch) → has_lock (journal (shard_node K s) past) c ≡ true → is_no_part (part K.shards s 0 (txs_of (journal (c.lane / K.lanes) past) c)) ≡ false
+  pub concerned_lock : (s : ℕ) (c : Batch) → has_lock (journal (shard_node K s) past) c ≡ true
+      → is_no_part (part K.shards s 0 (txs_of (journal (c.lane / K.lanes) past) c)) ≡ false
   concerned_lock s c h = not_empty (lock_of (journal (shard_node K s) past) c) _ (st.lock_part s c h) ((more (shard_node K s)).lock_some c h)
 
-  concerned_new : (r : Record) (node : ℕ) → Next K node (journal node past) r → IsCaused K (λ n. journal n past) node r → (s : ℕ) → node ≡ shard_node K s → (c : Batch)
+  concerned_new : (r : Record) (node : ℕ) → Next K node (journal node past) r → IsCaused K (λ n. journal n past) node r → (s : ℕ)
+      → node ≡ shard_node K s → (c : Batch)
       → ((kind_of r == 2) && is_of c r) ≡ true → is_no_part (part K.shards s 0 (txs_of (journal (c.lane / K.lanes) past) c)) ≡ false
   concerned_new (Lock stamp b es) node next caused s e c h =
       subst (λ d. is_no_part (part K.shards s 0 (txs_of (journal (d.lane / K.lanes) past) d)) ≡ false) (split_test 2 2 b c h).1
@@ -126,7 +137,8 @@ module _ (K : Shape) (P : Compact → Type 0) (past : List Row) (st : Structure 
   abbrev pub IsShardKind : ℕ → Type 0
   IsShardKind kind = (kind ≡ 2) ⊎ (kind ≡ 3) ⊎ (kind ≡ 4)
 
-  concerned_here : (kind : ℕ) → IsShardKind kind → (s : ℕ) → row.node ≡ shard_node K s → (c : Batch) → ((kind_of row.what == kind) && is_of c row.what) ≡ true
+  concerned_here : (kind : ℕ) → IsShardKind kind → (s : ℕ) → row.node ≡ shard_node K s → (c : Batch)
+      → ((kind_of row.what == kind) && is_of c row.what) ≡ true
       → Concerned K (txs_of (journal (c.lane / K.lanes) past) c) s
   concerned_here kind which s e c t = (
     in_range K row.node (journal row.node past) row.what next s e,
@@ -146,7 +158,8 @@ module _ (K : Shape) (P : Compact → Type 0) (past : List Row) (st : Structure 
         → record_of kind (journal (shard_node K s) past) c ≡ record_of kind (journal (shard_node K s) (row ∷ past)) c) [
           | true ↦ λ t. absurd (once K row.node (journal row.node past) (st.journals row.node) (more row.node) row.what next kind c t
               (subst (λ n. is_some (record_of kind (journal n past) c) ≡ true) (sym e) (have s (concerned_here kind which s e c t))))
-          | false ↦ λ t. sym (test_step kind row.what (journal (shard_node K s) past) c t) ∙ ap (λ J. record_of kind J c) (sym (head_at row past (shard_node K s) e))
+          | false ↦ λ t. sym (test_step kind row.what (journal (shard_node K s) past) c t)
+              ∙ ap (λ J. record_of kind J c) (sym (head_at row past (shard_node K s) e))
         ] refl
   ]
 
@@ -155,7 +168,8 @@ module _ (K : Shape) (P : Compact → Type 0) (past : List Row) (st : Structure 
     own : journal m past ≡ journal m (row ∷ past)
     own = sym (head_away row past m elsewhere)
 
-    same_causes : (q : Record) → Next K m (journal m past) q → IsCaused K (λ n. journal n past) m q → SameCauses K (λ n. journal n past) (λ n. journal n (row ∷ past)) q
+    same_causes : (q : Record) → Next K m (journal m past) q → IsCaused K (λ n. journal n past) m q
+        → SameCauses K (λ n. journal n past) (λ n. journal n (row ∷ past)) q
     same_causes (Lock stamp b es) at_q c = kept_lookup 6 (b.lane / K.lanes) b c.0
     same_causes (Finish stamp b ds) at_q c = kept_lookup 7 (b.lane / K.lanes) b c.0
     same_causes (Forget stamp b) at_q c = kept_lookup 8 (b.lane / K.lanes) b c.0
@@ -183,7 +197,8 @@ module _ (K : Shape) (past : List Row) (row : Row) (next : Next K row.node (jour
   older_lookup kind node c lt = elim (at_node row.node node) [
     | away e ↦ ap (λ J. record_of kind J c) (head_away row past node e)
     | at e ↦
-        let head : record_of kind (journal node (row ∷ past)) c ≡ record_of kind (row.what ∷ journal node past) c = ap (λ J. record_of kind J c) (head_at row past node e) in
+        let head : record_of kind (journal node (row ∷ past)) c ≡ record_of kind (row.what ∷ journal node past) c =
+        ap (λ J. record_of kind J c) (head_at row past node e) in
         elim ((kind_of row.what == kind) && is_of c row.what) as (λ t. ((kind_of row.what == kind) && is_of c row.what) ≡ t
         → record_of kind (journal node (row ∷ past)) c ≡ record_of kind (journal node past) c) [
           | true ↦ λ t. absurd (too_new node head (found kind node c t) lt)
@@ -191,7 +206,8 @@ module _ (K : Shape) (past : List Row) (row : Row) (next : Next K row.node (jour
         ] refl
   ]
     where
-      found : (kind node : ℕ) (c : Batch) → ((kind_of row.what == kind) && is_of c row.what) ≡ true → record_of kind (row.what ∷ journal node past) c ≡ Some row.what
+      found : (kind node : ℕ) (c : Batch) → ((kind_of row.what == kind) && is_of c row.what) ≡ true
+          → record_of kind (row.what ∷ journal node past) c ≡ Some row.what
       found kind node c t = rw t
 
       too_new : (node : ℕ) {r : Option Record} {q : Option Record} → r ≡ q → q ≡ Some row.what → stamp_in r < stamp_of row.what → ⊥
@@ -204,7 +220,8 @@ module _ (K : Shape) (past : List Row) (row : Row) (next : Next K row.node (jour
     | away e ↦ ap (λ J. record_of kind J c) (head_away row past (shard_node K s) e)
     | at e ↦ older_lookup kind (shard_node K s) c (omega (
       arith,
-      greatest_bound (λ s. stamp_in (at_shards K (λ n. journal n (row ∷ past)) kind c s)) K.shards s (in_range K row.node (journal row.node past) row.what next s e),
+      greatest_bound (λ s. stamp_in (at_shards K (λ n. journal n (row ∷ past)) kind c s)) K.shards s
+          (in_range K row.node (journal row.node past) row.what next s e),
     ))
   ]
 
@@ -225,7 +242,8 @@ module _ (K : Shape) (past : List Row) (row : Row) (next : Next K row.node (jour
         (subst (λ k. journal k (row ∷ past) ≡ journal k past) at_q.2 own_before, older_shards 4 b stamp le (omega (arith, c.1)))
     causes_before other le at_q c = tt
 
-    pub was_caused : (q : Record) → stamp_of q ≤ stamp_of row.what → Next K m (journal m past) q → IsCaused K (λ n. journal n (row ∷ past)) m q → IsCaused K (λ n. journal n past) m q
+    pub was_caused : (q : Record) → stamp_of q ≤ stamp_of row.what → Next K m (journal m past) q → IsCaused K (λ n. journal n (row ∷ past)) m q
+        → IsCaused K (λ n. journal n past) m q
     was_caused q le at_q c = caused_same K (λ n. journal n (row ∷ past)) (λ n. journal n past) m q own_before (causes_before q le at_q c) c
 
 none_cons : (kind : ℕ) (r : Record) (J : List Record) (b : Batch) → ((kind_of r == kind) && is_of b r) ≡ false → is_some (record_of kind J b) ≡ false
@@ -267,5 +285,6 @@ module _ (K : Shape) (minting : Minted) (P : Compact → Type 0) (shards : 0 < K
         | away e ↦ subst (λ J. MoreOk J) (sym (head_away row (later ++ first_rows K minting) n e)) (all_more later kept.3 n)
         | at e ↦ subst (λ J. MoreOk J) (sym (head_at row (later ++ first_rows K minting) n e))
             (subst (λ k. MoreOk (row.what ∷ journal k (later ++ first_rows K minting))) e
-            (next_more K row.node (journal row.node (later ++ first_rows K minting)) ((all_structure later kept.3).journals row.node) (all_more later kept.3 row.node) row.what kept.0))
+            (next_more K row.node (journal row.node (later ++ first_rows K minting)) ((all_structure later kept.3).journals row.node)
+            (all_more later kept.3 row.node) row.what kept.0))
       ]

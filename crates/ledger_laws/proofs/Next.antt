@@ -1,6 +1,7 @@
 -- The next record of a node as one product of facts, and kept histories as their rows say it, with the grammar beside.
 use Rattle.std.proofs.Common.{◌≡◌, ℕ, ◌+◌, ◌/◌, ◌<◌, Bool, List, [], ◌∷◌, ◌++◌, length, is_some}
-use Rattle.cbdc_model.specs.Records.{Shape, Batch, Compact, Record, Row, record_of, lock_of, txs_of, last_stamp, journal, Genesis, Lock, Finish, Forget, Start, Prepare, Commit, Discard, Done}
+use Rattle.cbdc_model.specs.Records.{Shape, Batch, Compact, Record, Row, record_of, lock_of, txs_of, last_stamp, journal, Genesis, Lock, Finish}
+use Rattle.cbdc_model.specs.Records.{Forget, Start, Prepare, Commit, Discard, Done}
 use Rattle.cbdc_model.specs.Slots.{slot, Idle, InLock, InFinish, InPrepare, InCommit, InDiscard}
 use Rattle.cbdc_model.specs.Replies.{answered, entries}
 use Rattle.cbdc_model.specs.Grammar.{IsShard, IsInGrammar}

@@ -35,7 +35,8 @@ row_same a b n w = λ i. record { node = n i; what = w i }
 in_rows : (rows : List Row) (n : ℕ) (r : Record) (J : List Record) → journal n rows ≡ r ∷ J → In (record { node = n; what = r }) rows
 in_rows [] n r J e = absurd (no_cons r J e)
 in_rows (row ∷ rows) n r J e = elim (at_node row.node n) [
-  | at s ↦ inl (row_same (record { node = n; what = r }) row (sym s) (sym (cons_same row.what r (journal n rows) J (sym (head_at row rows n s) ∙ e)).0))
+  | at s ↦ inl (row_same (record { node = n; what = r }) row (sym s)
+      (sym (cons_same row.what r (journal n rows) J (sym (head_at row rows n s) ∙ e)).0))
   | away s ↦ inr (in_rows rows n r J (sym (head_away row rows n s) ∙ e))
 ]
 
@@ -58,12 +59,14 @@ one_history [] (b ∷ B) o p h = absurd (no_cons b.what (journal b.node B) (h b.
 one_history (a ∷ A) [] o p h = absurd (no_cons a.what (journal a.node A) (sym (h a.node) ∙ head_at a A a.node refl))
 one_history (a ∷ A) (b ∷ B) o p h = elim (at_node a.node b.node) [
   | at s ↦
-      let w : a.what ≡ b.what = (cons_same a.what b.what (journal b.node A) (journal b.node B) (sym (head_at a A b.node s) ∙ h b.node ∙ head_at b B b.node refl)).0 in
+      let w : a.what ≡ b.what = (cons_same a.what b.what (journal b.node A) (journal b.node B)
+      (sym (head_at a A b.node s) ∙ h b.node ∙ head_at b B b.node refl)).0 in
       let e : a ≡ b = row_same a b s w in
       let t : A ≡ B = one_history A B o.1 p.1 (tails_same a b A B e h) in
       λ i. e i ∷ t i
   | away s ↦
-      let in_b : In a B = in_behind b B a (other_way a.node b.node s) (in_rows (b ∷ B) a.node a.what (journal a.node A) (sym (h a.node) ∙ head_at a A a.node refl)) in
+      let in_b : In a B = in_behind b B a (other_way a.node b.node s)
+      (in_rows (b ∷ B) a.node a.what (journal a.node A) (sym (h a.node) ∙ head_at a A a.node refl)) in
       let in_a : In b A = in_behind a A b s (in_rows (a ∷ A) b.node b.what (journal b.node B) (h b.node ∙ head_at b B b.node refl)) in
       absurd (not_above_both a b (above_all a A o.0 o.1 b in_a) (above_all b B p.0 p.1 a in_b))
 ]

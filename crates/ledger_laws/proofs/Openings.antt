@@ -1,5 +1,6 @@
 -- Nodes are brought up, each keeping what was in flight or not.
-use Rattle.std.proofs.Common.{◌≡◌, ◌⊎◌, inl, inr, ℕ, zero, suc, ◌+◌, ◌<◌, ◌≤◌, Bool, true, false, ◌&&◌, ◌==◌, nat_lt, if◌then◌else◌, [], ◌∷◌, length, length-set, None, refl, sym, ap, ◌∙◌, subst, arith}
+use Rattle.std.proofs.Common.{◌≡◌, ◌⊎◌, inl, inr, ℕ, zero, suc, ◌+◌, ◌<◌, ◌≤◌, Bool, true, false, ◌&&◌, ◌==◌, nat_lt, if◌then◌else◌, [], ◌∷◌, length}
+use Rattle.std.proofs.Common.{length-set, None, refl, sym, ap, ◌∙◌, subst, arith}
 use Rattle.std.proofs.lemmas.List.{get_or_past}
 use Rattle.cbdc_model.specs.Records.{Shape, Compact}
 use Rattle.cbdc_model.specs.History.{Minted}
@@ -46,7 +47,8 @@ module _ (K : Shape) (minting : Minted) (P : Compact → Type 0) (shards : 0 < K
             step = inl ((lt, u), refl);
             size = length-set {A = Node} w n _;
             down = ap (λ v. v.up) here;
-            journal_is = ap (λ v. v.journal) here ∙ sym (ap (λ c. if c && kept_at n then flushed (node_at w n).flight (journals w n) else journals w n) u);
+            journal_is = ap (λ v. v.journal) here
+                ∙ sym (ap (λ c. if c && kept_at n then flushed (node_at w n).flight (journals w n) else journals w n) u);
             others = λ m e. set_other K minting P shards w n m _ e;
           },
         )
@@ -66,7 +68,8 @@ module _ (K : Shape) (minting : Minted) (P : Compact → Type 0) (shards : 0 < K
               ≡ record { journal = if kept_at n then flushed (node_at w n).flight (journals w n) else journals w n; up = false; flight = None }
           here = set_same K minting P shards w n _ lt
 
-    bring_up : (n : ℕ) (w : World) → n < length w → Partly n w → (v : World) × Run K minting w (Crash n (kept_at n) ∷ Reopen n ∷ []) v × Partly (suc n) v
+    bring_up : (n : ℕ) (w : World) → n < length w → Partly n w
+        → (v : World) × Run K minting w (Crash n (kept_at n) ∷ Reopen n ∷ []) v × Partly (suc n) v
     bring_up n w lt p = by_stop (stopped n w lt)
       where
         by_stop : (v : World) × Stopped n w lt v → (v : World) × Run K minting w (Crash n (kept_at n) ∷ Reopen n ∷ []) v × Partly (suc n) v
@@ -77,9 +80,11 @@ module _ (K : Shape) (minting : Minted) (P : Compact → Type 0) (shards : 0 < K
             kept = run_keeps K minting P shards w (effect v (Reopen n)) (Crash n (kept_at n) ∷ Reopen n ∷ []) p.kept (tt, (tt, tt)) run_of;
             size = length-set {A = Node} v n _ ∙ s.size ∙ p.size;
             ready = λ m l. elim (at_node n m) [
-              | at e ↦ subst (λ k. ((node_at (effect v (Reopen n)) k).up ≡ true) × ((node_at (effect v (Reopen n)) k).flight ≡ None) × (journals (effect v (Reopen n)) k ≡ opened kept_at first k)) e
+              | at e ↦ subst (λ k. ((node_at (effect v (Reopen n)) k).up ≡ true) × ((node_at (effect v (Reopen n)) k).flight ≡ None)
+                  × (journals (effect v (Reopen n)) k ≡ opened kept_at first k)) e
                   (ap (λ u. u.up) here, ap (λ u. u.flight) here, ap (λ u. u.journal) here ∙ s.journal_is ∙ as_first)
-              | away e ↦ subst (λ u. (u.up ≡ true) × (u.flight ≡ None) × (u.journal ≡ opened kept_at first m)) (sym (others m e)) (p.ready m (below m l e))
+              | away e ↦ subst (λ u. (u.up ≡ true) × (u.flight ≡ None) × (u.journal ≡ opened kept_at first m)) (sym (others m e))
+                  (p.ready m (below m l e))
             ];
             rest = λ m le. others m (above m le) ∙ p.rest m (omega arith);
           },
@@ -110,7 +115,8 @@ module _ (K : Shape) (minting : Minted) (P : Compact → Type 0) (shards : 0 < K
     bring_all zero w le p = (w, refl, p)
     bring_all (suc n) w le p = next (bring_all n w (omega arith) p)
       where
-        next : (v : World) × Run K minting w (openings kept_at n) v × Partly n v → (v : World) × Run K minting w (openings kept_at (suc n)) v × Partly (suc n) v
+        next : (v : World) × Run K minting w (openings kept_at n) v × Partly n v
+            → (v : World) × Run K minting w (openings kept_at (suc n)) v × Partly (suc n) v
         next (v, run, q) =
             let b = bring_up n v (let z = q.size in let y = p.size in omega arith) q in
             (b.0, run-append K minting w v b.0 (openings kept_at n) (Crash n (kept_at n) ∷ Reopen n ∷ []) run b.1, b.2)
@@ -121,8 +127,10 @@ module _ (K : Shape) (minting : Minted) (P : Compact → Type 0) (shards : 0 < K
     pub is_quiet : IsQuiet v
     pub journals_are : (n : ℕ) → journals v n ≡ opened kept_at w n
 
-  pub open_all : (kept_at : ℕ → Bool) (w : World) → SteadyWorld K minting P w → length w ≡ K.coordinators + K.shards → (v : World) × Opened kept_at w v
-  open_all kept_at w kept size = by_all (bring_all kept_at w (length w) w (omega arith) (record { kept = kept; size = size; ready = λ m lt. absurd (omega arith); rest = λ m le. refl }))
+  pub open_all : (kept_at : ℕ → Bool) (w : World) → SteadyWorld K minting P w → length w ≡ K.coordinators + K.shards
+      → (v : World) × Opened kept_at w v
+  open_all kept_at w kept size = by_all (bring_all kept_at w (length w) w (omega arith)
+      (record { kept = kept; size = size; ready = λ m lt. absurd (omega arith); rest = λ m le. refl }))
     where
       is_less : (n m : ℕ) → nat_lt n m ≡ true → n < m
       is_less n m t = grind arith
@@ -131,7 +139,8 @@ module _ (K : Shape) (minting : Minted) (P : Compact → Type 0) (shards : 0 < K
       is_not n m t = grind arith
 
       under : (n m : ℕ) → (n < m) ⊎ (m ≤ n)
-      under n m = elim (nat_lt n m) as (λ t. nat_lt n m ≡ t → (n < m) ⊎ (m ≤ n)) [ true ↦ λ t. inl (is_less n m t) | false ↦ λ t. inr (is_not n m t) ] refl
+      under n m = elim (nat_lt n m) as (λ t. nat_lt n m ≡ t → (n < m) ⊎ (m ≤ n))
+          [ true ↦ λ t. inl (is_less n m t) | false ↦ λ t. inr (is_not n m t) ] refl
 
       -- no node, no journal
       beyond : (n : ℕ) → length w ≤ n → journals w n ≡ opened kept_at w n

@@ -12,7 +12,8 @@ pub record OrderOk (J : List Record) : Type 0 where
       → stamp_in (record_of 9 J c) < stamp_in (record_of 6 J b)
 
 -- a record that comes is no Done of an earlier batch than one that is prepared
-done_number : (K : Shape) (node : ℕ) (J : List Record) (r : Record) → JournalOk J → Next K node J r → (c b : Batch) → c.lane ≡ b.lane → c.number < b.number
+done_number : (K : Shape) (node : ℕ) (J : List Record) (r : Record) → JournalOk J → Next K node J r → (c b : Batch) → c.lane ≡ b.lane
+    → c.number < b.number
     → ((kind_of r == 9) && is_of c r) ≡ true → is_some (record_of 6 J b) ≡ true → ⊥
 done_number K node J (Done stamp d) ok next c b lanes lt t prepared =
     let s : (9 ≡ 9) × (d ≡ c) = split_test 9 9 d c t in
@@ -31,20 +32,25 @@ pub next_order : (K : Shape) (node : ℕ) (J : List Record) (r : Record) → Jou
 next_order K node J r ok next order =
     let newer : last_stamp J < stamp_of r = after_stamp K node J r next in
     record {
-      stamps_le = λ kind b. elim ((kind_of r == kind) && is_of b r) as (λ t. ((kind_of r == kind) && is_of b r) ≡ t → stamp_in (record_of kind (r ∷ J) b) ≤ stamp_of r) [
-        | true ↦ λ t. le_same (ap stamp_in (found_new kind r J b t))
-        | false ↦ λ t. le_old (ap stamp_in (test_step kind r J b t)) (order.stamps_le kind b) newer
-      ] refl;
+      stamps_le = λ kind b. elim ((kind_of r == kind) && is_of b r) as
+          (λ t. ((kind_of r == kind) && is_of b r) ≡ t → stamp_in (record_of kind (r ∷ J) b) ≤ stamp_of r) [
+            | true ↦ λ t. le_same (ap stamp_in (found_new kind r J b t))
+            | false ↦ λ t. le_old (ap stamp_in (test_step kind r J b t)) (order.stamps_le kind b) newer
+          ] refl;
       done_first = λ c b lanes lt d p.
-          elim ((kind_of r == 9) && is_of c r) as (λ t. ((kind_of r == 9) && is_of c r) ≡ t → stamp_in (record_of 9 (r ∷ J) c) < stamp_in (record_of 6 (r ∷ J) b)) [
+          elim ((kind_of r == 9) && is_of c r) as
+          (λ t. ((kind_of r == 9) && is_of c r) ≡ t → stamp_in (record_of 9 (r ∷ J) c) < stamp_in (record_of 6 (r ∷ J) b)) [
             | true ↦ λ t. absurd (elim ((kind_of r == 6) && is_of b r) as (λ u. ((kind_of r == 6) && is_of b r) ≡ u → ⊥) [
               | true ↦ λ u. not_both r c b t u
               | false ↦ λ u. done_number K node J r ok next c b lanes lt t (sym (ap is_some (test_step 6 r J b u)) ∙ p)
             ] refl)
-            | false ↦ λ t. elim ((kind_of r == 6) && is_of b r) as (λ u. ((kind_of r == 6) && is_of b r) ≡ u → stamp_in (record_of 9 (r ∷ J) c) < stamp_in (record_of 6 (r ∷ J) b)) [
-              | true ↦ λ u. lt_new (ap stamp_in (test_step 9 r J c t)) (order.stamps_le 9 c) newer (ap stamp_in (found_new 6 r J b u))
-              | false ↦ λ u. lt_old (ap stamp_in (test_step 9 r J c t)) (order.done_first c b lanes lt (sym (ap is_some (test_step 9 r J c t)) ∙ d) (sym (ap is_some (test_step 6 r J b u)) ∙ p)) (ap stamp_in (test_step 6 r J b u))
-            ] refl
+            | false ↦ λ t. elim ((kind_of r == 6) && is_of b r) as
+                (λ u. ((kind_of r == 6) && is_of b r) ≡ u → stamp_in (record_of 9 (r ∷ J) c) < stamp_in (record_of 6 (r ∷ J) b)) [
+                  | true ↦ λ u. lt_new (ap stamp_in (test_step 9 r J c t)) (order.stamps_le 9 c) newer (ap stamp_in (found_new 6 r J b u))
+                  | false ↦ λ u. lt_old (ap stamp_in (test_step 9 r J c t))
+                      (order.done_first c b lanes lt (sym (ap is_some (test_step 9 r J c t)) ∙ d) (sym (ap is_some (test_step 6 r J b u)) ∙ p))
+                      (ap stamp_in (test_step 6 r J b u))
+                ] refl
           ] refl;
     }
   where

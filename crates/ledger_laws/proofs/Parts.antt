@@ -1,5 +1,6 @@
 -- What the parts of a batch have of a hash, against the batch itself.
-use Rattle.std.proofs.Common.{◌≡◌, ◌⊎◌, inl, inr, ℕ, zero, suc, ◌+◌, ◌<◌, ◌≤◌, Bool, true, false, ◌&&◌, if◌then◌else◌, List, [], ◌∷◌, Option, Some, None, refl, sym, ap, ◌∙◌, subst, arith}
+use Rattle.std.proofs.Common.{◌≡◌, ◌⊎◌, inl, inr, ℕ, zero, suc, ◌+◌, ◌<◌, ◌≤◌, Bool, true, false, ◌&&◌, if◌then◌else◌, List, [], ◌∷◌, Option, Some}
+use Rattle.std.proofs.Common.{None, refl, sym, ap, ◌∙◌, subst, arith}
 use Rattle.cbdc_model.specs.After.{FitsReplies}
 use Rattle.cbdc_model.specs.History.{all_inputs, all_outputs}
 use Rattle.cbdc_model.specs.Outcomes.{won_at, won_txs, reply_at, outcome, outcome_by, outcomes}
@@ -198,7 +199,8 @@ module _ (x : Digest) (f : ℕ → Bool) where
       found : (a : Answered) (es : List Answered) (k : ℕ) → a.entry.place ≡ k → reply_at (a ∷ es) k ≡ Some a.reply
       found a es k p = grind arith
 
-      passed : (a : Answered) (es : List Answered) (j : ℕ) (r : Reply) (k : ℕ) → a.entry.place ≡ k → suc k ≤ j → reply_at es j ≡ Some r → reply_at (a ∷ es) j ≡ Some r
+      passed : (a : Answered) (es : List Answered) (j : ℕ) (r : Reply) (k : ℕ) → a.entry.place ≡ k → suc k ≤ j → reply_at es j ≡ Some r
+          → reply_at (a ∷ es) j ≡ Some r
       passed a es j r k p le is = grind arith
 
 -- a place is won only where each shard that has an entry of it replied Held

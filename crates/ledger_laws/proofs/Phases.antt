@@ -74,23 +74,30 @@ module _ (K : Shape) (minting : Minted) (P : Compact → Type 0) (shards : 0 < K
     done = λ h. let f = done_says b h in (f.0, λ s c. (f.1 s c, f.2 s c.0));
   }
 
-  pub older_locks : (b : Batch) → is_some (record_of 7 (J (b.lane / K.lanes)) b) ≡ true → AllOlder K J 2 b (stamp_in (record_of 7 (J (b.lane / K.lanes)) b))
+  pub older_locks : (b : Batch) → is_some (record_of 7 (J (b.lane / K.lanes)) b) ≡ true
+      → AllOlder K J 2 b (stamp_in (record_of 7 (J (b.lane / K.lanes)) b))
   older_locks b h = (commit_says b h).2
 
-  pub older_finishes : (b : Batch) → is_some (record_of 8 (J (b.lane / K.lanes)) b) ≡ true → AllOlder K J 3 b (stamp_in (record_of 8 (J (b.lane / K.lanes)) b))
+  pub older_finishes : (b : Batch) → is_some (record_of 8 (J (b.lane / K.lanes)) b) ≡ true
+      → AllOlder K J 3 b (stamp_in (record_of 8 (J (b.lane / K.lanes)) b))
   older_finishes b h = (discard_says b h).2
 
-  pub older_forgets : (b : Batch) → is_some (record_of 9 (J (b.lane / K.lanes)) b) ≡ true → AllOlder K J 4 b (stamp_in (record_of 9 (J (b.lane / K.lanes)) b))
+  pub older_forgets : (b : Batch) → is_some (record_of 9 (J (b.lane / K.lanes)) b) ≡ true
+      → AllOlder K J 4 b (stamp_in (record_of 9 (J (b.lane / K.lanes)) b))
   older_forgets b h = (done_says b h).2
 
   pub after_earlier : (c b : Batch) → IsAfterEarlier K J c b
   after_earlier c b lanes lt p q =
       let same : c.lane / K.lanes ≡ b.lane / K.lanes = ap (λ l. l / K.lanes) lanes in
-      let below : b.number ≤ (slot (J (b.lane / K.lanes)) b.lane).number = ((all_structure K minting P shards later kept).journals (b.lane / K.lanes)).prepare_below b q in
-      let high : c.number < (slot (J (c.lane / K.lanes)) c.lane).number = subst (λ l. c.number < (slot (J (l / K.lanes)) l).number) (sym lanes) (omega (arith, below)) in
-      let done : is_some (record_of 9 (J (c.lane / K.lanes)) c) ≡ true = (all_dones K minting P shards later kept (c.lane / K.lanes)).past_done c p high in
+      let below : b.number ≤ (slot (J (b.lane / K.lanes)) b.lane).number =
+      ((all_structure K minting P shards later kept).journals (b.lane / K.lanes)).prepare_below b q in
+      let high : c.number < (slot (J (c.lane / K.lanes)) c.lane).number =
+      subst (λ l. c.number < (slot (J (l / K.lanes)) l).number) (sym lanes) (omega (arith, below)) in
+      let done : is_some (record_of 9 (J (c.lane / K.lanes)) c) ≡ true =
+      (all_dones K minting P shards later kept (c.lane / K.lanes)).past_done c p high in
       let first : stamp_in (record_of 9 (J (c.lane / K.lanes)) c) < stamp_in (record_of 6 (J (c.lane / K.lanes)) b)
-      = (all_order K minting P shards later kept (c.lane / K.lanes)).done_first c b lanes lt done (subst (λ m. is_some (record_of 6 (J m) b) ≡ true) (sym same) q) in
+      = (all_order K minting P shards later kept (c.lane / K.lanes)).done_first c b lanes lt done
+      (subst (λ m. is_some (record_of 6 (J m) b) ≡ true) (sym same) q) in
       (done, subst (λ m. stamp_in (record_of 9 (J (c.lane / K.lanes)) c) < stamp_in (record_of 6 (J m) b)) same first)
 
 pub phase_law : PhaseLaw

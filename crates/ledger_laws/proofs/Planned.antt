@@ -1,12 +1,15 @@
 -- A record that a shard plans to append is next in its journal, and caused where the call's cause stands.
-use Rattle.std.proofs.Common.{◌≡◌, ℕ, suc, ◌<◌, max, Bool, true, false, ◌&&◌, ◌||◌, not, ◌==◌, nat_lt, if◌then◌else◌, List, [], ◌∷◌, ◌++◌, Option, Some, None, is_some, option_map, refl, sym, ap, ◌∙◌, subst, arith}
-use Rattle.cbdc_model.specs.Records.{Digest, Shape, Batch, Compact, Entry, Answered, Record, is_held, record_of, last_stamp, stamp_in, txs_in, outcomes_in, decisions_in, lock_of, Lock, Finish, Forget}
+use Rattle.std.proofs.Common.{◌≡◌, ℕ, suc, ◌<◌, max, Bool, true, false, ◌&&◌, ◌||◌, not, ◌==◌, nat_lt, if◌then◌else◌, List, [], ◌∷◌, ◌++◌, Option}
+use Rattle.std.proofs.Common.{Some, None, is_some, option_map, refl, sym, ap, ◌∙◌, subst, arith}
+use Rattle.cbdc_model.specs.Records.{Digest, Shape, Batch, Compact, Entry, Answered, Record, is_held, record_of, last_stamp, stamp_in, txs_in}
+use Rattle.cbdc_model.specs.Records.{outcomes_in, decisions_in, lock_of, Lock, Finish, Forget}
 use Rattle.cbdc_model.specs.Slots.{Phase, Slot, slot, slot_stamp, Idle, InLock, InFinish, InPrepare, InCommit, InDiscard}
 use Rattle.cbdc_model.specs.Replies.{answered, entries, reply_to}
 use Rattle.cbdc_model.specs.Ranges.{part}
 use Rattle.cbdc_model.specs.Outcomes.{decisions}
 use Rattle.cbdc_model.specs.Grammar.{IsInGrammar}
-use Rattle.cbdc_model.specs.Next.{Plan, is_idle, lock_again, next_lock, finish_again, finish_now, finish_in, next_finish, forget_in, next_forget, misfit, next_stamp, difference, same_entry, same_decision}
+use Rattle.cbdc_model.specs.Next.{Plan, is_idle, lock_again, next_lock, finish_again, finish_now, finish_in, next_finish, forget_in, next_forget}
+use Rattle.cbdc_model.specs.Next.{misfit, next_stamp, difference, same_entry, same_decision}
 use Rattle.cbdc_model.specs.After.{FitsReplies}
 use Rattle.cbdc_model.specs.Causes.{IsCaused}
 use Rattle.cbdc_model.specs.History.{header_of}
@@ -44,7 +47,8 @@ pub lock_appends : (J : List Record) (b : Batch) (part : List Entry) (cause : �
     → (q ≡ r) × ((slot J b.lane).phase ≡ Idle) × ((slot J b.lane).number < b.number)
 lock_appends J b part cause q r h =
     let s : Slot = slot J b.lane in
-    let one = passed (nat_lt b.number (slot J b.lane).number || ((b.number == (slot J b.lane).number) && is_idle (slot J b.lane).phase)) _ _ q r refl h in
+    let one = passed (nat_lt b.number (slot J b.lane).number || ((b.number == (slot J b.lane).number) && is_idle (slot J b.lane).phase)) _ _ q r refl
+    h in
     let two = passed (b.number == (slot J b.lane).number) _ _ q r (again_none (difference same_entry (entries (lock_of J b)) part) J b q) one.1 in
     let three = passed (not (is_idle (slot J b.lane).phase)) _ _ q r refl two.1 in
     let four = passed (not (nat_lt (slot_stamp J b.lane) cause)) _ _ q r refl three.1 in
@@ -59,7 +63,8 @@ pub misfit_none : (es : List Answered) (ds : List Bool) → misfit es ds ≡ Non
 misfit_none [] [] h = tt
 misfit_none [] (d ∷ ds) h = absurd (none_some 0 (sym h))
 misfit_none (a ∷ es) [] h = absurd (none_some 0 (sym h))
-misfit_none (a ∷ es) (d ∷ ds) h = elim (d && not (is_held a.reply)) as (λ c. (d && not (is_held a.reply)) ≡ c → (if c then Some 0 else option_map (λ n. suc n) (misfit es ds)) ≡ None
+misfit_none (a ∷ es) (d ∷ ds) h = elim (d && not (is_held a.reply)) as
+    (λ c. (d && not (is_held a.reply)) ≡ c → (if c then Some 0 else option_map (λ n. suc n) (misfit es ds)) ≡ None
     → (d ≡ true → is_held a.reply ≡ true) × FitsReplies es ds) [
       | true ↦ λ e h. absurd (none_some 0 (sym h))
       | false ↦ λ e h. (held d (is_held a.reply) e, misfit_none es ds (no_more (misfit es ds) h))
@@ -79,7 +84,8 @@ finish_again_none None J b q = refl
 in_lock : (ph : Phase) (J : List Record) (b : Batch) (ds : List Bool) (cause : ℕ) (q r : Record) → appends (finish_in ph J b ds cause) q ≡ Some r
     → (ph ≡ InLock) × (misfit (lock_of J b) ds ≡ None) × (q ≡ r)
 in_lock InLock J b ds cause q r h = let n = now_appends (misfit (lock_of J b) ds) J b.lane cause q r h in (refl, n.0, n.1)
-in_lock InFinish J b ds cause q r h = absurd (none_some r (sym (finish_again_none (difference same_decision (decisions_in (record_of 3 J b)) ds) J b q) ∙ h))
+in_lock InFinish J b ds cause q r h = absurd (none_some r
+    (sym (finish_again_none (difference same_decision (decisions_in (record_of 3 J b)) ds) J b q) ∙ h))
 in_lock Idle J b ds cause q r h = absurd (none_some r h)
 in_lock InPrepare J b ds cause q r h = absurd (none_some r h)
 in_lock InCommit J b ds cause q r h = absurd (none_some r h)
@@ -91,7 +97,8 @@ not_below m n c h = grind arith
 pub finish_appends : (J : List Record) (b : Batch) (ds : List Bool) (cause : ℕ) (q r : Record) → appends (next_finish J b ds cause) q ≡ Some r
     → (q ≡ r) × ((slot J b.lane).phase ≡ InLock) × ((slot J b.lane).number ≡ b.number) × FitsReplies (lock_of J b) ds
 finish_appends J b ds cause q r h =
-    let one = passed (nat_lt b.number (slot J b.lane).number || ((b.number == (slot J b.lane).number) && is_idle (slot J b.lane).phase)) _ _ q r refl h in
+    let one = passed (nat_lt b.number (slot J b.lane).number || ((b.number == (slot J b.lane).number) && is_idle (slot J b.lane).phase)) _ _ q r refl
+    h in
     let two = passed (nat_lt (slot J b.lane).number b.number) _ _ q r refl one.1 in
     let three = in_lock (slot J b.lane).phase J b ds cause q r two.1 in (
       three.2,
@@ -100,7 +107,8 @@ finish_appends J b ds cause q r h =
       misfit_none (lock_of J b) ds three.1,
     )
 
-in_finish : (ph : Phase) (J : List Record) (b : Batch) (cause : ℕ) (q r : Record) → appends (forget_in ph J b cause) q ≡ Some r → (ph ≡ InFinish) × (q ≡ r)
+in_finish : (ph : Phase) (J : List Record) (b : Batch) (cause : ℕ) (q r : Record) → appends (forget_in ph J b cause) q ≡ Some r
+    → (ph ≡ InFinish) × (q ≡ r)
 in_finish InFinish J b cause q r h = (refl, some_is q r (passed (not (nat_lt (slot_stamp J b.lane) cause)) _ _ q r refl h).1)
 in_finish Idle J b cause q r h = absurd (none_some r h)
 in_finish InLock J b cause q r h = absurd (none_some r h)
@@ -131,11 +139,13 @@ module _ (K : Shape) (P : Compact → Type 0) (id : Digest) (n : ℕ) (J : ℕ �
     pub caused : IsCaused K J n r
     pub passes : AllProper P r
 
-  pub planned : (call : ShardCall) (r : Record) → record_for (J n) call ≡ Some r → CauseStands K J n call → IsInGrammar (header_of K id n) r → Planned r
+  pub planned : (call : ShardCall) (r : Record) → record_for (J n) call ≡ Some r → CauseStands K J n call → IsInGrammar (header_of K id n) r
+      → Planned r
   planned (Lock_call c) r h stands grammar =
       let q : Record = Lock (next_stamp (J n) c.cause) c.batch (answered (J n) c.batch [] c.part) in
       let f = lock_appends (J n) c.batch c.part c.cause (Lock (next_stamp (J n) c.cause) c.batch (answered (J n) c.batch [] c.part)) r h in
-      let g : IsInGrammar (header_of K id n) (Lock (next_stamp (J n) c.cause) c.batch (answered (J n) c.batch [] c.part)) = subst (λ q. IsInGrammar (header_of K id n) q) (sym f.0) grammar in
+      let g : IsInGrammar (header_of K id n) (Lock (next_stamp (J n) c.cause) c.batch (answered (J n) c.batch [] c.part)) =
+      subst (λ q. IsInGrammar (header_of K id n) q) (sym f.0) grammar in
       let same : entries (answered (J n) c.batch [] c.part) ≡ c.part = entries_answered (J n) c.batch c.part [] in
       subst (λ q. Planned q) f.0 (record {
         next = (newer (last_stamp (J n)) c.cause, g.2, f.1, f.2, ap (λ p. answered (J n) c.batch [] p) (sym same), g.3.0);
@@ -148,7 +158,8 @@ module _ (K : Shape) (P : Compact → Type 0) (id : Digest) (n : ℕ) (J : ℕ �
       })
   planned (Finish_call c) r h stands grammar =
       let f = finish_appends (J n) c.batch c.decisions c.cause (Finish (next_stamp (J n) c.cause) c.batch c.decisions) r h in
-      let g : IsInGrammar (header_of K id n) (Finish (next_stamp (J n) c.cause) c.batch c.decisions) = subst (λ q. IsInGrammar (header_of K id n) q) (sym f.0) grammar in
+      let g : IsInGrammar (header_of K id n) (Finish (next_stamp (J n) c.cause) c.batch c.decisions) =
+      subst (λ q. IsInGrammar (header_of K id n) q) (sym f.0) grammar in
       subst (λ q. Planned q) f.0 (record {
         next = (newer (last_stamp (J n)) c.cause, g.2, f.1, f.2, f.3);
         caused = (
@@ -160,7 +171,8 @@ module _ (K : Shape) (P : Compact → Type 0) (id : Digest) (n : ℕ) (J : ℕ �
       })
   planned (Forget_call c) r h stands grammar =
       let f = forget_appends (J n) c.batch c.cause (Forget (next_stamp (J n) c.cause) c.batch) r h in
-      let g : IsInGrammar (header_of K id n) (Forget (next_stamp (J n) c.cause) c.batch) = subst (λ q. IsInGrammar (header_of K id n) q) (sym f.0) grammar in
+      let g : IsInGrammar (header_of K id n) (Forget (next_stamp (J n) c.cause) c.batch) =
+      subst (λ q. IsInGrammar (header_of K id n) q) (sym f.0) grammar in
       subst (λ q. Planned q) f.0 (record {
         next = (newer (last_stamp (J n)) c.cause, g.2, f.1, f.2);
         caused = (ap is_some stands, ap (λ r. suc (max (last_stamp (J n)) (stamp_in r))) (sym stands));

@@ -1,5 +1,6 @@
 -- Every kept history is that of a run.
-use Rattle.std.proofs.Common.{◌≡◌, inl, inr, ℕ, ◌+◌, ◌<◌, true, false, ◌==◌, List, [], ◌∷◌, ◌++◌, length, Some, None, is_some, length-set, refl, sym, ap, ◌∙◌, subst, arith}
+use Rattle.std.proofs.Common.{◌≡◌, inl, inr, ℕ, ◌+◌, ◌<◌, true, false, ◌==◌, List, [], ◌∷◌, ◌++◌, length, Some, None, is_some, length-set, refl, sym}
+use Rattle.std.proofs.Common.{ap, ◌∙◌, subst, arith}
 use Rattle.std.proofs.lemmas.List.FromFn.{length-map-range_with_len}
 use Rattle.cbdc_model.specs.Causes.{IsCaused}
 use Rattle.cbdc_model.specs.History.{header_of, first_rows, Minted}
@@ -15,7 +16,8 @@ use Rattle.ledger_laws.proofs.Rows.{at, away, at_node, head_at, head_away}
 use Rattle.ledger_laws.proofs.Worlds.{set_same, set_other}
 use Rattle.ledger_laws.proofs.FirstWorld.{init_at, init_beyond, init_journals, in_or_beyond}
 
-pub run-append : (K : Shape) (minting : Minted) (u v w : World) (es fs : List Event) → Run K minting u es v → Run K minting v fs w → Run K minting u (es ++ fs) w
+pub run-append : (K : Shape) (minting : Minted) (u v w : World) (es fs : List Event) → Run K minting u es v → Run K minting v fs w
+    → Run K minting u (es ++ fs) w
 run-append K minting u v w [] fs same run = subst (λ a. Run K minting a fs w) same run
 run-append K minting u v w (e ∷ es) fs run more = (run.0, run.1, run-append K minting run.0 v w es fs run.2 more)
 
@@ -48,9 +50,11 @@ module _ (K : Shape) (minting : Minted) (P : Compact → Type 0) (shards : 0 < K
     ended_away m e = set_other K minting P shards begun n m _ e ∙ set_other K minting P shards w n m flying e
 
     pub ended_length : length ended ≡ length w
-    ended_length = length-set {A = Node} begun n (record { journal = flushed (node_at begun n).flight (journals begun n); up = true; flight = None }) ∙ begun_length
+    ended_length = length-set {A = Node} begun n (record { journal = flushed (node_at begun n).flight (journals begun n); up = true; flight = None })
+        ∙ begun_length
 
-    pub written : IsQuiet w n → After (header_of K minting.id n) (journals w n) q → IsCaused K (journals w) n q → Run K minting w (Begin n q ∷ End n ∷ []) ended
+    pub written : IsQuiet w n → After (header_of K minting.id n) (journals w n) q → IsCaused K (journals w) n q
+        → Run K minting w (Begin n q ∷ End n ∷ []) ended
     written quiet next caused = (
       begun,
       inl ((quiet, next, caused), refl),
@@ -63,7 +67,9 @@ module _ (K : Shape) (minting : Minted) (P : Compact → Type 0) (shards : 0 < K
     run = refl;
     size = length-map-range_with_len (first_node K minting) 0 (K.coordinators + K.shards);
     journals_are = λ n. sym (init_journals K minting P n);
-    up = λ n lt. ap (λ v. v.up) (init_at K minting P n (let l : length (init K minting) ≡ K.coordinators + K.shards = length-map-range_with_len (first_node K minting) 0 (K.coordinators + K.shards) in omega arith));
+    up = λ n lt. ap (λ v. v.up) (init_at K minting P n
+        (let l : length (init K minting) ≡ K.coordinators + K.shards = length-map-range_with_len (first_node K minting) 0 (K.coordinators + K.shards)
+        in omega arith));
     quiet = λ n. elim (in_or_beyond K minting P n (K.coordinators + K.shards)) [
       | inl lt ↦ ap (λ v. v.flight) (init_at K minting P n lt)
       | inr le ↦ ap (λ v. v.flight) (init_beyond K minting P n le)
@@ -72,27 +78,37 @@ module _ (K : Shape) (minting : Minted) (P : Compact → Type 0) (shards : 0 < K
   reach (row ∷ later) kept = next_row row later kept.0 kept.1 kept.4 (reach later kept.3)
     where
       next_row : (row : Row) (later : List Row) → Next K row.node (journal row.node (later ++ first_rows K minting)) row.what
-          → IsCaused K (λ n. journal n (later ++ first_rows K minting)) row.node row.what → IsInGrammar (header_of K minting.id row.node) row.what → Reached K minting later → Reached K minting (row ∷ later)
+          → IsCaused K (λ n. journal n (later ++ first_rows K minting)) row.node row.what → IsInGrammar (header_of K minting.id row.node) row.what
+          → Reached K minting later → Reached K minting (row ∷ later)
       next_row row later next caused grammar r =
-          let lt : row.node < length r.world = (let l : row.node < K.coordinators + K.shards = at_a_node K row.node (journal row.node (later ++ first_rows K minting)) row.what next in omega (arith, r.size)) in
+          let lt : row.node < length r.world = (let l : row.node < K.coordinators + K.shards =
+          at_a_node K row.node (journal row.node (later ++ first_rows K minting)) row.what next in omega (arith, r.size)) in
           record {
             world = ended r.world row.node row.what lt;
-            run = run-append K minting (init K minting) r.world (ended r.world row.node row.what lt) (events_of later) (Begin row.node row.what ∷ End row.node ∷ []) r.run
+            run = run-append K minting (init K minting) r.world (ended r.world row.node row.what lt) (events_of later)
+                (Begin row.node row.what ∷ End row.node ∷ []) r.run
                 (written r.world row.node row.what lt (lt, r.up row.node lt, r.quiet row.node)
-                (subst (λ J. After (header_of K minting.id row.node) J row.what) (sym (r.journals_are row.node)) (after_of K minting.id row.node (journal row.node (later ++ first_rows K minting)) row.what next grammar))
+                (subst (λ J. After (header_of K minting.id row.node) J row.what) (sym (r.journals_are row.node))
+                (after_of K minting.id row.node (journal row.node (later ++ first_rows K minting)) row.what next grammar))
                 (subst (λ J. IsCaused K J row.node row.what) (λ i n. sym (r.journals_are n) i) caused));
             size = ended_length r.world row.node row.what lt ∙ r.size;
             journals_are = λ m. elim (at_node row.node m) [
               | at e ↦ subst (λ k. journals (ended r.world row.node row.what lt) k ≡ journal k (row ∷ (later ++ first_rows K minting))) e
-                  (ap (λ v. v.journal) (ended_at r.world row.node row.what lt) ∙ ap (λ J. row.what ∷ J) (r.journals_are row.node) ∙ sym (head_at row (later ++ first_rows K minting) row.node refl))
-              | away e ↦ ap (λ v. v.journal) (ended_away r.world row.node row.what lt m e) ∙ r.journals_are m ∙ sym (head_away row (later ++ first_rows K minting) m e)
+                  (ap (λ v. v.journal) (ended_at r.world row.node row.what lt) ∙ ap (λ J. row.what ∷ J) (r.journals_are row.node)
+                  ∙ sym (head_at row (later ++ first_rows K minting) row.node refl))
+              | away e ↦ ap (λ v. v.journal) (ended_away r.world row.node row.what lt m e) ∙ r.journals_are m
+                  ∙ sym (head_away row (later ++ first_rows K minting) m e)
             ];
             up = λ m l. elim (at_node row.node m) [
-              | at e ↦ subst (λ k. (node_at (ended r.world row.node row.what lt) k).up ≡ true) e (ap (λ v. v.up) (ended_at r.world row.node row.what lt))
-              | away e ↦ ap (λ v. v.up) (ended_away r.world row.node row.what lt m e) ∙ r.up m (let k : length (ended r.world row.node row.what lt) ≡ length r.world = ended_length r.world row.node row.what lt in omega arith)
+              | at e ↦ subst (λ k. (node_at (ended r.world row.node row.what lt) k).up ≡ true) e
+                  (ap (λ v. v.up) (ended_at r.world row.node row.what lt))
+              | away e ↦ ap (λ v. v.up) (ended_away r.world row.node row.what lt m e)
+                  ∙ r.up m (let k : length (ended r.world row.node row.what lt) ≡ length r.world = ended_length r.world row.node row.what lt in
+                  omega arith)
             ];
             quiet = λ m. elim (at_node row.node m) [
-              | at e ↦ subst (λ k. (node_at (ended r.world row.node row.what lt) k).flight ≡ None) e (ap (λ v. v.flight) (ended_at r.world row.node row.what lt))
+              | at e ↦ subst (λ k. (node_at (ended r.world row.node row.what lt) k).flight ≡ None) e
+                  (ap (λ v. v.flight) (ended_at r.world row.node row.what lt))
               | away e ↦ ap (λ v. v.flight) (ended_away r.world row.node row.what lt m e) ∙ r.quiet m
             ];
           }

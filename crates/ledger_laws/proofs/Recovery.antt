@@ -1,5 +1,6 @@
 -- The headline: of every run from the first world, once it is recovered.
-use Rattle.std.proofs.Common.{◌≡◌, ◌⊎◌, inl, inr, ℕ, ◌+◌, ◌<◌, ◌≤◌, ◌/◌, ◌*◌, true, false, List, [], ◌∷◌, ◌++◌, map, Some, bytes_eq, refl, sym, ap, ◌∙◌, subst, arith}
+use Rattle.std.proofs.Common.{◌≡◌, ◌⊎◌, inl, inr, ℕ, ◌+◌, ◌<◌, ◌≤◌, ◌/◌, ◌*◌, true, false, List, [], ◌∷◌, ◌++◌, map, Some, bytes_eq, refl, sym, ap}
+use Rattle.std.proofs.Common.{◌∙◌, subst, arith}
 use Rattle.std.specs.List.{IsDistinct, AllByRecursion}
 use Rattle.std.proofs.lemmas.Slice.Eq.{bytes_eq-Decides}
 use Rattle.cbdc_model.specs.Clean.{Clean, IsMember, IsProperCompact}
@@ -54,7 +55,12 @@ hashes-append x (c ∷ cs) ds = omega (arith, hashes-append x cs ds)
 
 pub hashes_all : (x : Digest) (ts : List FullTx) → count x (hashes_of (all_spent ts)) ≡ count x (all_inputs (map compact ts))
 hashes_all x [] = refl
-hashes_all x (t ∷ ts) = omega (arith, hashes-append x t.inputs (all_spent ts), hashes_all x ts, count-append x (hashes_of t.inputs) (all_inputs (map compact ts)))
+hashes_all x (t ∷ ts) = omega (
+  arith,
+  hashes-append x t.inputs (all_spent ts),
+  hashes_all x ts,
+  count-append x (hashes_of t.inputs) (all_inputs (map compact ts)),
+)
 
 pub each-append : (Q : Coin → Type 0) (cs ds : List Coin) → EachCoin Q cs → EachCoin Q ds → EachCoin Q (cs ++ ds)
 each-append Q [] ds h k = k
@@ -80,7 +86,8 @@ module _ (mint : List Output) (txs : List FullTx) (clean : Clean mint txs) where
       made_in m.proper.0 (inr m.proper.1) x (subst (λ k. 0 < count x k.outputs) (sym m.proper.3) m.makes)
 
   -- made coins with different hashes have different outpoints
-  not_here : (c : Coin) (cs : List Coin) → made c → EachCoin made cs → count (coin_hash c) (hashes_of cs) ≡ 0 → AllByRecursion (λ q. bytes_eq (point_of c) q ≡ false) (map point_of cs)
+  not_here : (c : Coin) (cs : List Coin) → made c → EachCoin made cs → count (coin_hash c) (hashes_of cs) ≡ 0
+      → AllByRecursion (λ q. bytes_eq (point_of c) q ≡ false) (map point_of cs)
   not_here c [] m each z = tt
   not_here c (d ∷ ds) m each z =
       (differs, not_here c ds m each.1 (none_later (coin_hash c) (coin_hash d) (hashes_of ds) z))
@@ -100,7 +107,8 @@ module _ (mint : List Output) (txs : List FullTx) (clean : Clean mint txs) where
         | false ↦ λ _. refl
       ] refl
 
-  pub distinct_points : (cs : List Coin) → EachCoin made cs → ((x : Digest) → count x (hashes_of cs) ≤ 1) → IsDistinct (λ p q. bytes_eq p q) (map point_of cs)
+  pub distinct_points : (cs : List Coin) → EachCoin made cs → ((x : Digest) → count x (hashes_of cs) ≤ 1)
+      → IsDistinct (λ p q. bytes_eq p q) (map point_of cs)
   unfolding IsDistinct
   distinct_points [] each once = tt
   distinct_points (c ∷ cs) each once = (
@@ -120,7 +128,8 @@ module _ (mint : List Output) (txs : List FullTx) (clean : Clean mint txs) where
   each_is_made t m [] all source = tt
   each_is_made t m (c ∷ cs) all source =
       let s : MadeAt (coin_hash c) = source (coin_hash c) (first_counts (coin_hash c) (hashes_of cs)) in
-      let same : s.coin ≡ c = clean.hashes s.coin c ((coins_apart mint txs clean).made_named s.coin s.is_made) (t, m, inl (contains_in t.inputs c (all c (inl refl)))) s.hash in
+      let same : s.coin ≡ c = clean.hashes s.coin c ((coins_apart mint txs clean).made_named s.coin s.is_made)
+      (t, m, inl (contains_in t.inputs c (all c (inl refl)))) s.hash in
       (subst made same s.is_made, each_is_made t m cs (λ d h. all d (inr h)) (λ x h. source x (later_counts x (coin_hash c) (hashes_of cs) h)))
     where
       first_counts : (y : Digest) (ys : List Digest) → 0 < count y (y ∷ ys)
@@ -129,10 +138,12 @@ module _ (mint : List Output) (txs : List FullTx) (clean : Clean mint txs) where
       later_counts : (x y : Digest) (ys : List Digest) → 0 < count x ys → 0 < count x (y ∷ ys)
       later_counts x y ys h = omega arith
 
-  all_are_made : (ts : List FullTx) → EachFair mint txs clean ts → ((x : Digest) → 0 < count x (all_inputs (map compact ts)) → MadeAt x) → EachCoin made (all_spent ts)
+  all_are_made : (ts : List FullTx) → EachFair mint txs clean ts → ((x : Digest) → 0 < count x (all_inputs (map compact ts)) → MadeAt x)
+      → EachCoin made (all_spent ts)
   all_are_made [] fair source = tt
   all_are_made (t ∷ ts) fair source = each-append made t.inputs (all_spent ts)
-      (each_is_made t fair.0.member t.inputs (λ c h. h) (λ x h. source x (omega (arith, count-append x (hashes_of t.inputs) (all_inputs (map compact ts))))))
+      (each_is_made t fair.0.member t.inputs (λ c h. h)
+      (λ x h. source x (omega (arith, count-append x (hashes_of t.inputs) (all_inputs (map compact ts))))))
       (all_are_made ts fair.1 (λ x h. source x (omega (arith, count-append x (hashes_of t.inputs) (all_inputs (map compact ts))))))
 
   pub none_twice : (K : Shape) (past : List Row) → Inv (λ x. count x (genesis_hashes mint)) (IsProperCompact txs) (view K past)
@@ -140,15 +151,18 @@ module _ (mint : List Output) (txs : List FullTx) (clean : Clean mint txs) where
   none_twice K past inv each forms =
       let source : (x : Digest) → 0 < count x (all_inputs (map compact forms.full)) → MadeAt x
       = λ x h. let n : 0 < count x (all_inputs (committed past)) = subst (λ ks. 0 < count x (all_inputs ks)) forms.forms h in
-      let cases : (0 < count x (genesis_hashes mint)) ⊎ (0 < count x (all_outputs (committed past))) = some_source x past n (inv.spent_le x) (inv.arrived_le x) in
+      let cases : (0 < count x (genesis_hashes mint))
+      ⊎ (0 < count x (all_outputs (committed past))) = some_source x past n (inv.spent_le x) (inv.arrived_le x) in
       elim cases [
         | inl g ↦ made_in (genesis_tx mint) (inl refl) x g
         | inr m ↦ made_by (committed past) each x m
       ] in
       distinct_points (all_spent forms.full) (all_are_made forms.full forms.fair source)
-      (λ x. once_each x (hashes_all x forms.full) (ap (λ ks. count x (all_inputs ks)) forms.forms) (inv.spent_le x) (inv.arrived_le x) (inv.made_once x))
+      (λ x. once_each x (hashes_all x forms.full) (ap (λ ks. count x (all_inputs ks)) forms.forms) (inv.spent_le x) (inv.arrived_le x)
+      (inv.made_once x))
     where
-      some_source : (x : Digest) (past : List Row) {a : ℕ} → 0 < count x (all_inputs (committed past)) → count x (all_inputs (committed past)) ≤ a → a ≤ count x (genesis_hashes mint) + count x (all_outputs (committed past))
+      some_source : (x : Digest) (past : List Row) {a : ℕ} → 0 < count x (all_inputs (committed past)) → count x (all_inputs (committed past)) ≤ a
+          → a ≤ count x (genesis_hashes mint) + count x (all_outputs (committed past))
           → (0 < count x (genesis_hashes mint)) ⊎ (0 < count x (all_outputs (committed past)))
       some_source x past h k l = grind arith
 
@@ -180,7 +194,8 @@ module _ (mint : List Output) (txs : List FullTx) (clean : Clean mint txs) where
           let m : count (a.first_input k) k.inputs ≡ count (a.first_input k) l.inputs = ap (count (a.first_input k)) inputs in
           omega (arith, once (a.first_input k), count-append (a.first_input k) l.inputs (all_inputs ls))
 
-  distinct_ids : (ks : List Compact) → Each (IsProperCompact txs) ks → ((x : Digest) → count x (all_inputs ks) ≤ 1) → IsDistinct same_digest (map (λ k. k.id) ks)
+  distinct_ids : (ks : List Compact) → Each (IsProperCompact txs) ks → ((x : Digest) → count x (all_inputs ks) ≤ 1)
+      → IsDistinct same_digest (map (λ k. k.id) ks)
   unfolding IsDistinct
   distinct_ids [] each once = tt
   distinct_ids (k ∷ ks) each once = (
@@ -201,8 +216,10 @@ kept_headline K mint txs J shards lanes clean k all_idle =
     let f : Folds K mint txs (history_of K mint k.later) = folds_steady K mint txs clean shards k.later k.kept inv in
     let idle : (lane : ℕ) → lane / K.lanes < K.coordinators → (slot (journal (lane / K.lanes) (history_of K mint k.later)) lane).phase ≡ Idle
     = λ lane lt. ap (λ J. (slot J lane).phase) (k.history (lane / K.lanes)) ∙ all_idle lane (below lane K.lanes K.coordinators lanes lt) in
-    let each : Each (IsProperCompact txs) (committed (history_of K mint k.later)) = kept_each K (IsProperCompact txs) (minted mint) shards a k.later k.kept in
-    let forms : FullForms mint txs clean (committed (history_of K mint k.later)) = full_forms mint txs clean (committed (history_of K mint k.later)) each in
+    let each : Each (IsProperCompact txs) (committed (history_of K mint k.later)) =
+    kept_each K (IsProperCompact txs) (minted mint) shards a k.later k.kept in
+    let forms : FullForms mint txs clean (committed (history_of K mint k.later)) =
+    full_forms mint txs clean (committed (history_of K mint k.later)) each in
     let same : forms.full ≡ f.txs = one_list txs (committed (history_of K mint k.later)) forms.full f.txs forms.is f.committed in
     record {
       later = k.later;
@@ -215,7 +232,8 @@ kept_headline K mint txs J shards lanes clean k all_idle =
       value_kept = f.value_kept;
       unspent = λ x. (
         λ u. (f.places x).1 (inl (ap (λ J. status J x) (k.history (shard_node K (shard_of K.shards x))) ∙ u)),
-        λ i. ap (λ J. status J x) (sym (k.history (shard_node K (shard_of K.shards x)))) ∙ only_unspent K mint txs k.later shards k.kept idle inv x ((f.places x).0 i),
+        λ i. ap (λ J. status J x) (sym (k.history (shard_node K (shard_of K.shards x))))
+            ∙ only_unspent K mint txs k.later shards k.kept idle inv x ((f.places x).0 i),
       );
       none_twice = subst (λ ts. NoneTwice ts) same (none_twice mint txs clean K (history_of K mint k.later) inv each forms);
       no_id_twice = no_id_twice mint txs clean K (history_of K mint k.later) inv each;
@@ -225,7 +243,8 @@ kept_headline K mint txs J shards lanes clean k all_idle =
     below : (lane lanes coordinators : ℕ) → 0 < lanes → lane / lanes < coordinators → lane < coordinators * lanes
     below lane lanes coordinators h lt = (div-lt_iff_lt-mul h).0 lt
 
-    only_unspent : (K : Shape) (mint : List Output) (txs : List FullTx) (later : List Row) → 0 < K.shards → Steady K (minted mint) (IsProperCompact txs) later
+    only_unspent : (K : Shape) (mint : List Output) (txs : List FullTx) (later : List Row) → 0 < K.shards
+        → Steady K (minted mint) (IsProperCompact txs) later
         → ((lane : ℕ) → lane / K.lanes < K.coordinators → (slot (journal (lane / K.lanes) (history_of K mint later)) lane).phase ≡ Idle)
         → Inv (λ x. count x (genesis_hashes mint)) (IsProperCompact txs) (view K (history_of K mint later)) → (x : Digest)
         → IsPlaced K (history_of K mint later) x → status (journal_at K (history_of K mint later) x) x ≡ Unspent
@@ -234,7 +253,8 @@ kept_headline K mint txs J shards lanes clean k all_idle =
         absurd (none_locked K (minted mint) (IsProperCompact txs) shards later kept idle x w.0 inv w.2)
     only_unspent K mint txs later shards kept idle inv x (inr (inr c)) =
         absurd (none_coming K (minted mint) (IsProperCompact txs) shards later kept idle x c.0
-        (in_count x (all_outputs (won_of K (history_of K mint later) c.0)) (in_contains (all_outputs (won_of K (history_of K mint later) c.0)) x c.1)) c.2)
+        (in_count x (all_outputs (won_of K (history_of K mint later) c.0))
+        (in_contains (all_outputs (won_of K (history_of K mint later) c.0)) x c.1)) c.2)
 
 of_world : (K : Shape) (minting : Minted) (P : Compact → Type 0) (w : World) → SteadyWorld K minting P w → SteadyJournals K minting P (journals w)
 of_world K minting P w k = record { later = k.later; kept = k.kept; ordered = k.ordered; history = k.history }
@@ -242,16 +262,23 @@ of_world K minting P w k = record { later = k.later; kept = k.kept; ordered = k.
 pub idle_law : IdleLaw
 idle_law K mint txs J shards lanes clean kept idle =
     kept_headline K mint txs J shards lanes clean
-    (record { later = kept.later; kept = steady K (minted mint) (IsProperCompact txs) kept.later kept.kept; ordered = kept.history.ordered; history = kept.history.journals_are }) idle
+    (record {
+      later = kept.later;
+      kept = steady K (minted mint) (IsProperCompact txs) kept.later kept.kept;
+      ordered = kept.history.ordered;
+      history = kept.history.journals_are;
+    }) idle
 
 pub recovered_law : RecoveredLaw
 recovered_law K mint txs w shards lanes clean kept recovered =
-    kept_headline K mint txs (journals w) shards lanes clean (of_world K (minted mint) (IsProperCompact txs) w (to_steady K mint txs w kept)) recovered.idle
+    kept_headline K mint txs (journals w) shards lanes clean (of_world K (minted mint) (IsProperCompact txs) w (to_steady K mint txs w kept))
+    recovered.idle
 
 pub headline_law : HeadlineLaw
 headline_law K mint txs events w shards lanes clean proper run recovered =
     kept_headline K mint txs (journals w) shards lanes clean (of_world K (minted mint) (IsProperCompact txs) w
-    (run_keeps K (minted mint) (IsProperCompact txs) shards (init K (minted mint)) w events (init_kept K (minted mint) (IsProperCompact txs)) proper run)) recovered.idle
+    (run_keeps K (minted mint) (IsProperCompact txs) shards (init K (minted mint)) w events (init_kept K (minted mint) (IsProperCompact txs)) proper
+    run)) recovered.idle
 
 -- what was committed is one list, and leaves one book
 pub flow_law : FlowLaw

@@ -1,8 +1,11 @@
 -- What is still to come of a lane's open batch may be written: the Locks of a prepared batch, its Commit, the Finishes, the Discard, the Forgets, the Done.
-use Rattle.std.proofs.Common.{◌≡◌, inl, inr, ℕ, zero, suc, ◌+◌, ◌^◌, ◌<◌, ◌≤◌, ◌/◌, max, true, false, ◌&&◌, ◌==◌, List, [], ◌∷◌, ◌++◌, length, Some, is_some, refl, sym, ap, ◌∙◌, subst, arith}
+use Rattle.std.proofs.Common.{◌≡◌, inl, inr, ℕ, zero, suc, ◌+◌, ◌^◌, ◌<◌, ◌≤◌, ◌/◌, max, true, false, ◌&&◌, ◌==◌, List, [], ◌∷◌, ◌++◌, length, Some}
+use Rattle.std.proofs.Common.{is_some, refl, sym, ap, ◌∙◌, subst, arith}
 use Rattle.std.specs.List.{AllByRecursion}
 use Rattle.std.proofs.lemmas.List.Elements.{All-from_recursion, recursion_from_All}
-use Rattle.cbdc_model.specs.Records.{Digest, Shape, Batch, Compact, Entry, Outcome, Answered, Record, Row, journal, record_of, kind_of, is_of, entries_in, txs_in, outcomes_in, lock_of, txs_of, stamp_of, stamp_in, last_stamp, Lock, Finish, Forget, Prepare, Commit, Discard, Done}
+use Rattle.cbdc_model.specs.Records.{Digest, Shape, Batch, Compact, Entry, Outcome, Answered, Record, Row, journal, record_of, kind_of, is_of}
+use Rattle.cbdc_model.specs.Records.{entries_in, txs_in, outcomes_in, lock_of, txs_of, stamp_of, stamp_in, last_stamp, Lock, Finish, Forget, Prepare}
+use Rattle.cbdc_model.specs.Records.{Commit, Discard, Done}
 use Rattle.cbdc_model.specs.Slots.{slot, InPrepare, InCommit, InDiscard}
 use Rattle.cbdc_model.specs.Replies.{answered, entries}
 use Rattle.cbdc_model.specs.Ranges.{shard_node, part, is_no_part, Concerned}
@@ -15,7 +18,8 @@ use Rattle.ledger_laws.proofs.Lookups.{true_false, no_lock}
 use Rattle.ledger_laws.proofs.Slots.{same_batch_self}
 use Rattle.ledger_laws.proofs.Recovered.{all_dones}
 use Rattle.ledger_laws.proofs.Repeats.{all_order, lock_answered, finish_answered, forget_answered}
-use Rattle.ledger_laws.proofs.Answered.{LockAnswered, FinishAnswered, ForgetAnswered, lock_stale, lock_stored, lock_appends, finish_stale, finish_stored, finish_appends, forget_stale, forget_stored, forget_appends}
+use Rattle.ledger_laws.proofs.Answered.{LockAnswered, FinishAnswered, ForgetAnswered, lock_stale, lock_stored, lock_appends, finish_stale}
+use Rattle.ledger_laws.proofs.Answered.{finish_stored, finish_appends, forget_stale, forget_stored, forget_appends}
 use Rattle.ledger_laws.proofs.Settling.{shard_number}
 use Rattle.ledger_laws.proofs.Planned.{entries_answered, newer}
 use Rattle.ledger_laws.proofs.Found.{found_grammar, lock_fits, forgot_here, finished_here, locked_here, commit_locked, holders}
@@ -83,24 +87,37 @@ module _ (K : Shape) (minting : Minted) (P : Compact → Type 0) (shards : 0 < K
         same : entries (answered (J (shard_node K s)) b [] (part K.shards s 0 txs)) ≡ part K.shards s 0 txs
         same = entries_answered (J (shard_node K s)) b (part K.shards s 0 txs) []
 
-        fits : Fits K s (J (shard_node K s)) b its_grammar.1 (holders K minting P shards later kept (shard_node K s)) 0 K.batch (length txs) (answered (J (shard_node K s)) b [] (part K.shards s 0 txs))
-        fits = part_fits K s (J (shard_node K s)) b its_grammar.1 (holders K minting P shards later kept (shard_node K s)) [] 0 K.batch txs (recursion_from_All IsCompact txs its_grammar.4) (omega (arith, its_grammar.3))
+        fits : Fits K s (J (shard_node K s)) b its_grammar.1 (holders K minting P shards later kept (shard_node K s)) 0 K.batch (length txs)
+            (answered (J (shard_node K s)) b [] (part K.shards s 0 txs))
+        fits = part_fits K s (J (shard_node K s)) b its_grammar.1 (holders K minting P shards later kept (shard_node K s)) [] 0 K.batch txs
+            (recursion_from_All IsCompact txs its_grammar.4) (omega (arith, its_grammar.3))
 
         some : 0 < length (answered (J (shard_node K s)) b [] (part K.shards s 0 txs))
         some = some_entries (part K.shards s 0 txs) (answered (J (shard_node K s)) b [] (part K.shards s 0 txs)) same c.1
 
         locked : entries (lock_of (J (shard_node K s)) b) ≡ part K.shards s 0 txs → ⊥
-        locked e = let n = some_entries (part K.shards s 0 txs) (lock_of (J (shard_node K s)) b) e c.1 in let z = ap (λ fs. length fs) (no_lock (J (shard_node K s)) b missing) in omega arith
+        locked e = let n = some_entries (part K.shards s 0 txs) (lock_of (J (shard_node K s)) b) e c.1 in let z =
+            ap (λ fs. length fs) (no_lock (J (shard_node K s)) b missing) in omega arith
 
         by_answer : LockAnswered (J (shard_node K s)) b (part K.shards s 0 txs) cause → IsDue K minting.id J (shard_node K s) (due_lock s)
         by_answer (lock_stale (inl lt)) = absurd (not_past s lt)
-        by_answer (lock_stale (inr (e, i))) = absurd (true_false _ (locked_here K minting P shards later kept s b (finished_here K minting P shards later kept s b (forgot_here K minting P shards later kept s b its_grammar.1.1 e i))) missing)
+        by_answer (lock_stale (inr (e, i))) = absurd
+            (true_false _ (locked_here K minting P shards later kept s b
+            (finished_here K minting P shards later kept s b (forgot_here K minting P shards later kept s b its_grammar.1.1 e i))) missing)
         by_answer (lock_stored n e) = absurd (locked e)
         by_answer (lock_appends lt i after) = record {
-          next = (newer (last_stamp (J (shard_node K s))) cause, at_shard s c.0, i, lt, ap (λ p. answered (J (shard_node K s)) b [] p) (sym same), some);
+          next = (
+            newer (last_stamp (J (shard_node K s))) cause,
+            at_shard s c.0,
+            i,
+            lt,
+            ap (λ p. answered (J (shard_node K s)) b [] p) (sym same),
+            some,
+          );
           caused = (
             ap is_some stands,
-            (λ k e. same ∙ (let m : s ≡ k = omega arith in subst (λ m. part K.shards s 0 txs ≡ part K.shards m 0 txs) m refl) ∙ ap (λ r. part K.shards k 0 (txs_in r)) (sym stands)),
+            (λ k e. same ∙ (let m : s ≡ k = omega arith in subst (λ m. part K.shards s 0 txs ≡ part K.shards m 0 txs) m refl)
+                ∙ ap (λ r. part K.shards k 0 (txs_in r)) (sym stands)),
             ap (λ r. suc (max (last_stamp (J (shard_node K s))) (stamp_in r))) (sym stands),
           );
           grammar = (
@@ -127,9 +144,11 @@ module _ (K : Shape) (minting : Minted) (P : Compact → Type 0) (shards : 0 < K
       same_txs : txs_of (J (b.lane / K.lanes)) b ≡ txs
       same_txs = ap txs_in stands
 
-      pub lock_writes : suc top ≤ 2 ^ 62 → (s : ℕ) → Concerned K txs s → has_lock (J (shard_node K s)) b ≡ false → Writes K minting.id P J (shard_node K s) b 2 top
+      pub lock_writes : suc top ≤ 2 ^ 62 → (s : ℕ) → Concerned K txs s → has_lock (J (shard_node K s)) b ≡ false
+          → Writes K minting.id P J (shard_node K s) b 2 top
       lock_writes in_time s c missing =
-          let due = lock_next b cause txs stands number s c missing (omega (arith, stamped (last_stamp (J (shard_node K s))) cause top (low (shard_node K s)) low_cause, in_time)) in
+          let due = lock_next b cause txs stands number s c missing
+          (omega (arith, stamped (last_stamp (J (shard_node K s))) cause top (low (shard_node K s)) low_cause, in_time)) in
           record {
             r = due_lock b cause txs stands number s;
             next = due.next;
@@ -142,11 +161,14 @@ module _ (K : Shape) (minting : Minted) (P : Compact → Type 0) (shards : 0 < K
           }
         where
           low_cause : cause ≤ top
-          low_cause = let l : stamp_in (record_of 6 (J (b.lane / K.lanes)) b) ≤ top = low_at 6 (b.lane / K.lanes) b in subst (λ r. stamp_in r ≤ top) stands l
+          low_cause = let l : stamp_in (record_of 6 (J (b.lane / K.lanes)) b) ≤ top = low_at 6 (b.lane / K.lanes) b in
+              subst (λ r. stamp_in r ≤ top) stands l
 
-      pub commit_writes : (slot (J (b.lane / K.lanes)) b.lane).phase ≡ InPrepare → AllHave K J 2 b → Writes K minting.id P J (b.lane / K.lanes) b 7 top
+      pub commit_writes : (slot (J (b.lane / K.lanes)) b.lane).phase ≡ InPrepare → AllHave K J 2 b
+          → Writes K minting.id P J (b.lane / K.lanes) b 7 top
       commit_writes phase have = record {
-        r = Commit (suc (max (last_stamp (J (b.lane / K.lanes))) (last_of K J 2 b))) b (outcomes (λ s. entries_in (at_shards K J 2 b s)) K.shards 0 (txs_of (J (b.lane / K.lanes)) b));
+        r = Commit (suc (max (last_stamp (J (b.lane / K.lanes))) (last_of K J 2 b))) b
+            (outcomes (λ s. entries_in (at_shards K J 2 b s)) K.shards 0 (txs_of (J (b.lane / K.lanes)) b));
         next = (newer (last_stamp (J (b.lane / K.lanes))) (last_of K J 2 b), prepared.2, refl, phase, number, same_length);
         caused = (have, refl, refl);
         passes = tt;
@@ -167,19 +189,22 @@ module _ (K : Shape) (minting : Minted) (P : Compact → Type 0) (shards : 0 < K
           low_locks = greatest_le (λ s. stamp_in (at_shards K J 2 b s)) top K.shards (λ s. low_at 2 (shard_node K s) b)
 
           locks_fit : (s : ℕ) → s < K.shards → AllByRecursion (IsEntry K (shard_node K s)) (entries_in (at_shards K J 2 b s))
-          locks_fit s lt = elim (has_lock (J (shard_node K s)) b) as (λ c. has_lock (J (shard_node K s)) b ≡ c → AllByRecursion (IsEntry K (shard_node K s)) (lock_of (J (shard_node K s)) b)) [
-            | true ↦ λ e. (lock_fits K minting P shards later kept (shard_node K s) b e).all
-            | false ↦ λ e. subst (λ fs. AllByRecursion (IsEntry K (shard_node K s)) fs) (sym (no_lock (J (shard_node K s)) b e)) tt
-          ] refl
+          locks_fit s lt = elim (has_lock (J (shard_node K s)) b) as
+              (λ c. has_lock (J (shard_node K s)) b ≡ c → AllByRecursion (IsEntry K (shard_node K s)) (lock_of (J (shard_node K s)) b)) [
+                | true ↦ λ e. (lock_fits K minting P shards later kept (shard_node K s) b e).all
+                | false ↦ λ e. subst (λ fs. AllByRecursion (IsEntry K (shard_node K s)) fs) (sym (no_lock (J (shard_node K s)) b e)) tt
+              ] refl
 
-          same_length : length (outcomes (λ s. entries_in (at_shards K J 2 b s)) K.shards 0 (txs_of (J (b.lane / K.lanes)) b)) ≡ length (txs_of (J (b.lane / K.lanes)) b)
+          same_length : length (outcomes (λ s. entries_in (at_shards K J 2 b s)) K.shards 0 (txs_of (J (b.lane / K.lanes)) b))
+              ≡ length (txs_of (J (b.lane / K.lanes)) b)
           same_length = outcomes_length K (λ s. entries_in (at_shards K J 2 b s)) locks_fit 0 (txs_of (J (b.lane / K.lanes)) b)
 
           sized : (1 ≤ length (outcomes (λ s. entries_in (at_shards K J 2 b s)) K.shards 0 (txs_of (J (b.lane / K.lanes)) b)))
               × (length (outcomes (λ s. entries_in (at_shards K J 2 b s)) K.shards 0 (txs_of (J (b.lane / K.lanes)) b)) ≤ K.batch)
           sized = let l = ap (λ ts. length ts) same_txs in (omega (arith, same_length, prepared.3), omega (arith, same_length, prepared.3))
 
-      pub discard_writes : (slot (J (b.lane / K.lanes)) b.lane).phase ≡ InCommit → AllHave K J 3 b → Writes K minting.id P J (b.lane / K.lanes) b 8 top
+      pub discard_writes : (slot (J (b.lane / K.lanes)) b.lane).phase ≡ InCommit → AllHave K J 3 b
+          → Writes K minting.id P J (b.lane / K.lanes) b 8 top
       discard_writes phase have = record {
         r = Discard (suc (max (last_stamp (J (b.lane / K.lanes))) (last_of K J 3 b))) b;
         next = (newer (last_stamp (J (b.lane / K.lanes))) (last_of K J 3 b), prepared.2, refl, phase, number);
@@ -209,24 +234,32 @@ module _ (K : Shape) (minting : Minted) (P : Compact → Type 0) (shards : 0 < K
           low_forgets : last_of K J 4 b ≤ top
           low_forgets = greatest_le (λ s. stamp_in (at_shards K J 4 b s)) top K.shards (λ s. low_at 4 (shard_node K s) b)
 
-      pub finish_writes : (stamp : ℕ) (os : List Outcome) → record_of 7 (J (b.lane / K.lanes)) b ≡ Some (Commit stamp b os) → (s : ℕ) → Concerned K txs s
+      pub finish_writes : (stamp : ℕ) (os : List Outcome) → record_of 7 (J (b.lane / K.lanes)) b ≡ Some (Commit stamp b os) → (s : ℕ)
+          → Concerned K txs s
           → has_finish (J (shard_node K s)) b ≡ false → Writes K minting.id P J (shard_node K s) b 3 top
       finish_writes stamp os committed s c missing =
           by_answer (finish_answered K minting P shards later kept b stamp os committed s (subst (λ ts. Concerned K ts s) (sym same_txs) c))
         where
           low_commit : stamp ≤ top
-          low_commit = let l : stamp_in (record_of 7 (J (b.lane / K.lanes)) b) ≤ top = low_at 7 (b.lane / K.lanes) b in subst (λ r. stamp_in r ≤ top) committed l
+          low_commit = let l : stamp_in (record_of 7 (J (b.lane / K.lanes)) b) ≤ top = low_at 7 (b.lane / K.lanes) b in
+              subst (λ r. stamp_in r ≤ top) committed l
 
           locked : has_lock (J (shard_node K s)) b ≡ true
           locked = commit_locked K minting P shards later kept b stamp os committed s (subst (λ ts. Concerned K ts s) (sym same_txs) c)
 
-          sized : (1 ≤ length (decisions os (entries (lock_of (J (shard_node K s)) b)))) × (length (decisions os (entries (lock_of (J (shard_node K s)) b))) ≤ K.batch)
-          sized = let f = (lock_fits K minting P shards later kept (shard_node K s) b locked).size in let l = decisions_length os (lock_of (J (shard_node K s)) b) in (omega arith, omega arith)
+          sized : (1 ≤ length (decisions os (entries (lock_of (J (shard_node K s)) b))))
+              × (length (decisions os (entries (lock_of (J (shard_node K s)) b))) ≤ K.batch)
+          sized = let f = (lock_fits K minting P shards later kept (shard_node K s) b locked).size in let l =
+              decisions_length os (lock_of (J (shard_node K s)) b) in (omega arith, omega arith)
 
-          by_answer : FinishAnswered (J (shard_node K s)) b (decisions os (entries (lock_of (J (shard_node K s)) b))) stamp → Writes K minting.id P J (shard_node K s) b 3 top
+          by_answer : FinishAnswered (J (shard_node K s)) b (decisions os (entries (lock_of (J (shard_node K s)) b))) stamp
+              → Writes K minting.id P J (shard_node K s) b 3 top
           by_answer (finish_stale (inl lt)) = absurd (not_past b cause txs stands number s lt)
-          by_answer (finish_stale (inr (e, i))) = absurd (true_false _ (finished_here K minting P shards later kept s b (forgot_here K minting P shards later kept s b prepared.1.1 e i)) missing)
-          by_answer (finish_stored n p e) = absurd (true_false _ ((all_dones K minting P shards later kept (shard_node K s)).finish_here b p n) missing)
+          by_answer (finish_stale (inr (e, i))) =
+              absurd (true_false _ (finished_here K minting P shards later kept s b (forgot_here K minting P shards later kept s b prepared.1.1 e i))
+              missing)
+          by_answer (finish_stored n p e) = absurd
+              (true_false _ ((all_dones K minting P shards later kept (shard_node K s)).finish_here b p n) missing)
           by_answer (finish_appends n p fit after) = record {
             r = Finish (suc (max (last_stamp (J (shard_node K s))) stamp)) b (decisions os (entries (lock_of (J (shard_node K s)) b)));
             next = (newer (last_stamp (J (shard_node K s))) stamp, at_shard s c.0, p, n, fit);
@@ -248,7 +281,8 @@ module _ (K : Shape) (minting : Minted) (P : Compact → Type 0) (shards : 0 < K
           by_answer (forget_answered K minting P shards later kept b stamp discarded s (subst (λ ts. Concerned K ts s) (sym same_txs) c))
         where
           low_discard : stamp ≤ top
-          low_discard = let l : stamp_in (record_of 8 (J (b.lane / K.lanes)) b) ≤ top = low_at 8 (b.lane / K.lanes) b in subst (λ r. stamp_in r ≤ top) discarded l
+          low_discard = let l : stamp_in (record_of 8 (J (b.lane / K.lanes)) b) ≤ top = low_at 8 (b.lane / K.lanes) b in
+              subst (λ r. stamp_in r ≤ top) discarded l
 
           by_answer : ForgetAnswered (J (shard_node K s)) b stamp → Writes K minting.id P J (shard_node K s) b 4 top
           by_answer (forget_stale lt) = absurd (not_past b cause txs stands number s lt)

@@ -42,7 +42,8 @@ unchanged f n row past h =
       | false ↦ refl
     ]
 
-pub journals_next : (K : Shape) (past : List Row) → ((n : ℕ) → JournalOk (journal n past)) → (row : Row) → Next K row.node (journal row.node past) row.what
+pub journals_next : (K : Shape) (past : List Row) → ((n : ℕ) → JournalOk (journal n past)) → (row : Row)
+    → Next K row.node (journal row.node past) row.what
     → (n : ℕ) → JournalOk (journal n (row ∷ past))
 journals_next K past ok row next n =
     elim (row.node == n) as (λ c. (row.node == n) ≡ c → JournalOk (if c then row.what ∷ journal n past else journal n past)) [
@@ -74,20 +75,26 @@ module _ (K : Shape) (past : List Row) (row : Row)
 
     pub same_view : view K (row ∷ past) ≡ view K past
     same_view = λ i. record {
-      status = λ x. unchanged (λ J. status J x) (shard_node K (shard_of K.shards x)) row past (same_status (journal (shard_node K (shard_of K.shards x)) past) x) i;
-      arrived = λ x. unchanged (λ J. arrived J x) (shard_node K (shard_of K.shards x)) row past (same_arrived (journal (shard_node K (shard_of K.shards x)) past) x) i;
+      status = λ x. unchanged (λ J. status J x) (shard_node K (shard_of K.shards x)) row past
+          (same_status (journal (shard_node K (shard_of K.shards x)) past) x) i;
+      arrived = λ x. unchanged (λ J. arrived J x) (shard_node K (shard_of K.shards x)) row past
+          (same_arrived (journal (shard_node K (shard_of K.shards x)) past) x) i;
       spent = λ x. count x (all_inputs (same_committed i));
       made = λ x. count x (all_outputs (same_committed i));
       takes = λ b x. count x (all_inputs (same_won b i));
       makes = λ b x. count x (all_outputs (same_won b i));
-      finished = λ b x. unchanged (λ J. has_finish J b) (shard_node K (shard_of K.shards x)) row past (same_finish (journal (shard_node K (shard_of K.shards x)) past) b) i;
-      holds = λ b x. count x (held_inputs (unchanged (λ J. lock_of J b) (shard_node K (shard_of K.shards x)) row past (same_lock (journal (shard_node K (shard_of K.shards x)) past) b) i));
+      finished = λ b x. unchanged (λ J. has_finish J b) (shard_node K (shard_of K.shards x)) row past
+          (same_finish (journal (shard_node K (shard_of K.shards x)) past) b) i;
+      holds = λ b x. count x (held_inputs (unchanged (λ J. lock_of J b) (shard_node K (shard_of K.shards x)) row past
+          (same_lock (journal (shard_node K (shard_of K.shards x)) past) b) i));
     }
 
 -- and so do those that no question about a journal looks at
 pub quiet_view : (K : Shape) (past : List Row) (row : Row) → ((J : List Record) (b : Batch) → lock_of (row.what ∷ J) b ≡ lock_of J b)
-    → ((J : List Record) (b : Batch) → has_finish (row.what ∷ J) b ≡ has_finish J b) → ((J : List Record) (x : Digest) → status (row.what ∷ J) x ≡ status J x)
-    → ((J : List Record) (x : Digest) → arrived (row.what ∷ J) x ≡ arrived J x) → ((J : List Record) (b : Batch) → txs_of (row.what ∷ J) b ≡ txs_of J b)
+    → ((J : List Record) (b : Batch) → has_finish (row.what ∷ J) b ≡ has_finish J b)
+    → ((J : List Record) (x : Digest) → status (row.what ∷ J) x ≡ status J x)
+    → ((J : List Record) (x : Digest) → arrived (row.what ∷ J) x ≡ arrived J x)
+    → ((J : List Record) (b : Batch) → txs_of (row.what ∷ J) b ≡ txs_of J b)
     → ((J : List Record) (b : Batch) → outcomes_of (row.what ∷ J) b ≡ outcomes_of J b) → newly_won row.what (journal row.node past) ≡ []
     → view K (row ∷ past) ≡ view K past
 quiet_view K past row locks finishes statuses arrivals txs outs none = same_view K past row locks finishes statuses arrivals
@@ -115,7 +122,8 @@ pub journal-append : (n : ℕ) (xs ys : List Row) → journal n (xs ++ ys) ≡ j
 journal-append n [] ys = refl
 journal-append n (row ∷ xs) ys =
     let ih : journal n (xs ++ ys) ≡ journal n xs ++ journal n ys = journal-append n xs ys in
-    elim (row.node == n) as (λ c. (if c then row.what ∷ journal n (xs ++ ys) else journal n (xs ++ ys)) ≡ (if c then row.what ∷ journal n xs else journal n xs) ++ journal n ys) [
+    elim (row.node == n) as (λ c. (if c then row.what ∷ journal n (xs ++ ys) else journal n (xs ++ ys))
+    ≡ (if c then row.what ∷ journal n xs else journal n xs) ++ journal n ys) [
       | true ↦ ap (λ J. row.what ∷ J) ih
       | false ↦ ih
     ]

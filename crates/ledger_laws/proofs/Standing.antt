@@ -1,10 +1,12 @@
 -- What a record that stands says of the records that caused it, in every later world.
-use Rattle.std.proofs.Common.{◌≡◌, ◌⊎◌, inl, inr, ℕ, ◌<◌, ◌/◌, true, false, ◌&&◌, ◌==◌, List, [], ◌∷◌, ◌++◌, Some, is_some, refl, sym, ap, ◌∙◌, subst, arith}
+use Rattle.std.proofs.Common.{◌≡◌, ◌⊎◌, inl, inr, ℕ, ◌<◌, ◌/◌, true, false, ◌&&◌, ◌==◌, List, [], ◌∷◌, ◌++◌, Some, is_some, refl, sym, ap, ◌∙◌, subst}
+use Rattle.std.proofs.Common.{arith}
 use Rattle.cbdc_model.specs.Causes.{at_shards, AllHave, IsCaused}
 use Rattle.cbdc_model.specs.History.{first_rows, Minted}
 use Rattle.cbdc_model.specs.Outcomes.{outcomes, decisions}
 use Rattle.cbdc_model.specs.Ranges.{shard_node, part, Concerned}
-use Rattle.cbdc_model.specs.Records.{Shape, Batch, Compact, Record, Row, journal, record_of, kind_of, is_of, stamp_in, entries_in, txs_in, outcomes_in, Genesis, Lock, Finish, Forget, Start, Prepare, Commit, Discard, Done}
+use Rattle.cbdc_model.specs.Records.{Shape, Batch, Compact, Record, Row, journal, record_of, kind_of, is_of, stamp_in, entries_in, txs_in}
+use Rattle.cbdc_model.specs.Records.{outcomes_in, Genesis, Lock, Finish, Forget, Start, Prepare, Commit, Discard, Done}
 use Rattle.cbdc_model.specs.Replies.{entries}
 use Rattle.ledger_laws.proofs.Next.{Next, Steady}
 use Rattle.ledger_laws.proofs.ByKind.{some_is, found_new}
@@ -40,7 +42,8 @@ Facts K J node (Discard stamp b) = (is_some (record_of 6 (J (b.lane / K.lanes)) 
 Facts K J node (Done stamp b) = (is_some (record_of 6 (J (b.lane / K.lanes)) b) ≡ true) × AllHave K J 4 b × AllOlder K J 4 b stamp
 
 -- they hold where the record is caused
-pub facts_now : (K : Shape) (J : ℕ → List Record) (node : ℕ) (r : Record) → JournalOk (J node) → PhaseOk (J node) → Next K node (J node) r → IsCaused K J node r → Facts K J node r
+pub facts_now : (K : Shape) (J : ℕ → List Record) (node : ℕ) (r : Record) → JournalOk (J node) → PhaseOk (J node) → Next K node (J node) r
+    → IsCaused K J node r → Facts K J node r
 facts_now K J node (Genesis header hs) ok phases next c = tt
 facts_now K J node (Start header) ok phases next c = tt
 facts_now K J node (Prepare stamp b txs) ok phases next c = omega (arith, next.0)
@@ -64,16 +67,19 @@ facts_now K J node (Done stamp b) ok phases next c = (
   λ s lt. omega (arith, c.1, greatest_bound (λ s. stamp_in (at_shards K J 4 b s)) K.shards s lt),
 )
 
-all_have_same : (K : Shape) (I J : ℕ → List Record) (kind : ℕ) (b : Batch) → record_of 6 (I (b.lane / K.lanes)) b ≡ record_of 6 (J (b.lane / K.lanes)) b
+all_have_same : (K : Shape) (I J : ℕ → List Record) (kind : ℕ) (b : Batch)
+    → record_of 6 (I (b.lane / K.lanes)) b ≡ record_of 6 (J (b.lane / K.lanes)) b
     → ((s : ℕ) → at_shards K I kind b s ≡ at_shards K J kind b s) → AllHave K I kind b → AllHave K J kind b
 all_have_same K I J kind b lane shards h s c = subst (λ r. is_some r ≡ true) (shards s) (h s (subst (λ r. Concerned K (txs_in r) s) (sym lane) c))
 
-all_older_same : (K : Shape) (I J : ℕ → List Record) (kind : ℕ) (b : Batch) (stamp : ℕ) → ((s : ℕ) → at_shards K I kind b s ≡ at_shards K J kind b s) → AllOlder K I kind b stamp → AllOlder K J kind b stamp
+all_older_same : (K : Shape) (I J : ℕ → List Record) (kind : ℕ) (b : Batch) (stamp : ℕ) → ((s : ℕ) → at_shards K I kind b s ≡ at_shards K J kind b s)
+    → AllOlder K I kind b stamp → AllOlder K J kind b stamp
 all_older_same K I J kind b stamp shards h s lt = subst (λ r. stamp_in r < stamp) (shards s) (h s lt)
 
 module _ (K : Shape) (P : Compact → Type 0) (past : List Row) (st : Structure K P past) (more : (n : ℕ) → MoreOk (journal n past)) (row : Row)
     (next : Next K row.node (journal row.node past) row.what) (caused : IsCaused K (λ n. journal n past) row.node row.what) where
-  keep : (kind node : ℕ) (c : Batch) → is_some (record_of kind (journal node past) c) ≡ true → record_of kind (journal node past) c ≡ record_of kind (journal node (row ∷ past)) c
+  keep : (kind node : ℕ) (c : Batch) → is_some (record_of kind (journal node past) c) ≡ true
+      → record_of kind (journal node past) c ≡ record_of kind (journal node (row ∷ past)) c
   keep kind node c f = kept_lookup K P past st more row next caused kind node c f
 
   shards_same : (kind : ℕ) → (kind ≡ 2) ⊎ (kind ≡ 3) ⊎ (kind ≡ 4) → (c : Batch) → AllHave K (λ n. journal n past) kind c
@@ -109,22 +115,30 @@ module _ (K : Shape) (P : Compact → Type 0) (past : List Row) (st : Structure 
       )
   facts_stay node (Discard stamp b) f =
       let e = keep 6 (b.lane / K.lanes) b f.0 in
-      let s = shards_same 3 (inr (inl refl)) b f.1 in
-      (subst (λ r. is_some r ≡ true) e f.0, all_have_same K (λ n. journal n past) (λ n. journal n (row ∷ past)) 3 b e s f.1, all_older_same K (λ n. journal n past) (λ n. journal n (row ∷ past)) 3 b stamp s f.2)
+      let s = shards_same 3 (inr (inl refl)) b f.1 in (
+        subst (λ r. is_some r ≡ true) e f.0,
+        all_have_same K (λ n. journal n past) (λ n. journal n (row ∷ past)) 3 b e s f.1,
+        all_older_same K (λ n. journal n past) (λ n. journal n (row ∷ past)) 3 b stamp s f.2,
+      )
   facts_stay node (Done stamp b) f =
       let e = keep 6 (b.lane / K.lanes) b f.0 in
-      let s = shards_same 4 (inr (inr refl)) b f.1 in
-      (subst (λ r. is_some r ≡ true) e f.0, all_have_same K (λ n. journal n past) (λ n. journal n (row ∷ past)) 4 b e s f.1, all_older_same K (λ n. journal n past) (λ n. journal n (row ∷ past)) 4 b stamp s f.2)
+      let s = shards_same 4 (inr (inr refl)) b f.1 in (
+        subst (λ r. is_some r ≡ true) e f.0,
+        all_have_same K (λ n. journal n past) (λ n. journal n (row ∷ past)) 4 b e s f.1,
+        all_older_same K (λ n. journal n past) (λ n. journal n (row ∷ past)) 4 b stamp s f.2,
+      )
 
 -- of every record that stands in a kept history
 module _ (K : Shape) (minting : Minted) (P : Compact → Type 0) (shards : 0 < K.shards) where
   abbrev whole : List Row → List Row
   whole later = later ++ first_rows K minting
 
-  pub standing : (later : List Row) → Steady K minting P later → (n kind : ℕ) (b : Batch) (r : Record) → record_of kind (journal n (whole later)) b ≡ Some r
+  pub standing : (later : List Row) → Steady K minting P later → (n kind : ℕ) (b : Batch) (r : Record)
+      → record_of kind (journal n (whole later)) b ≡ Some r
       → Facts K (λ n. journal n (whole later)) n r
   standing [] kept n kind b r e =
-      absurd (true_false _ (ap is_some e) (none_of kind (journal n (first_rows K minting)) (journal_first n (first_rows K minting) (all_first K minting P shards)) b))
+      absurd (true_false _ (ap is_some e) (none_of kind (journal n (first_rows K minting))
+      (journal_first n (first_rows K minting) (all_first K minting P shards)) b))
   standing (row ∷ later) kept n kind b r e =
       let past : List Row = whole later in
       let st : Structure K P (whole later) = all_structure K minting P shards later kept.3 in
@@ -134,13 +148,16 @@ module _ (K : Shape) (minting : Minted) (P : Compact → Type 0) (shards : 0 < K
       elim (at_node row.node n) [
         | away a ↦ stay r (standing later kept.3 n kind b r (ap (λ J. record_of kind J b) (sym (head_away row (whole later) n a)) ∙ e))
         | at a ↦
-            let e' : record_of kind (row.what ∷ journal n (whole later)) b ≡ Some r = ap (λ J. record_of kind J b) (sym (head_at row (whole later) n a)) ∙ e in
-            elim ((kind_of row.what == kind) && is_of b row.what) as (λ t. ((kind_of row.what == kind) && is_of b row.what) ≡ t → Facts K (λ n. journal n (row ∷ whole later)) n r) [
+            let e' : record_of kind (row.what ∷ journal n (whole later)) b ≡ Some r =
+            ap (λ J. record_of kind J b) (sym (head_at row (whole later) n a)) ∙ e in
+            elim ((kind_of row.what == kind) && is_of b row.what) as
+            (λ t. ((kind_of row.what == kind) && is_of b row.what) ≡ t → Facts K (λ n. journal n (row ∷ whole later)) n r) [
               | true ↦ λ t.
                   let is : row.what ≡ r = some_is row.what r (sym (found_new kind row.what (journal n (whole later)) b t) ∙ e') in
                   stay r (subst (λ q. Facts K (λ n. journal n (whole later)) n q) is
                   (subst (λ m. Facts K (λ n. journal n (whole later)) m row.what) a
-                  (facts_now K (λ n. journal n (whole later)) row.node row.what (st.journals row.node) (all_phases K minting P shards later kept.3 row.node) kept.0 kept.1)))
+                  (facts_now K (λ n. journal n (whole later)) row.node row.what (st.journals row.node)
+                  (all_phases K minting P shards later kept.3 row.node) kept.0 kept.1)))
               | false ↦ λ t. stay r (standing later kept.3 n kind b r (sym (test_step kind row.what (journal n (whole later)) b t) ∙ e'))
             ] refl
       ]

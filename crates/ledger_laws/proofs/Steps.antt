@@ -1,16 +1,20 @@
 -- Each row that is next and caused keeps the invariant of the view.
-use Rattle.std.proofs.Common.{◌≡◌, ℕ, suc, ◌+◌, ◌<◌, ◌≤◌, ◌/◌, Bool, true, false, ◌&&◌, ◌==◌, if◌then◌else◌, List, [], ◌∷◌, ◌++◌, Some, refl, sym, ap, ◌∙◌, subst, arith, append-nil}
+use Rattle.std.proofs.Common.{◌≡◌, ℕ, suc, ◌+◌, ◌<◌, ◌≤◌, ◌/◌, Bool, true, false, ◌&&◌, ◌==◌, if◌then◌else◌, List, [], ◌∷◌, ◌++◌, Some, refl, sym, ap}
+use Rattle.std.proofs.Common.{◌∙◌, subst, arith, append-nil}
 use Rattle.cbdc_model.specs.After.{FitsReplies}
 use Rattle.cbdc_model.specs.Causes.{IsCaused}
 use Rattle.cbdc_model.specs.History.{won_of, committed, all_inputs, all_outputs}
 use Rattle.cbdc_model.specs.Outcomes.{won_txs, won_at, decisions, reply_at}
 use Rattle.cbdc_model.specs.Ranges.{shard_of, shard_node, journal_at, lane_journal, part, is_no_part, on_shard, is_empty}
-use Rattle.cbdc_model.specs.Records.{Digest, Shape, Batch, same_batch, Compact, Outcome, Answered, Entry, Reply, Record, Row, journal, is_held, is_won, Genesis, Lock, Finish, Start, Prepare, Commit, lock_of, txs_of, outcomes_of}
+use Rattle.cbdc_model.specs.Records.{Digest, Shape, Batch, same_batch, Compact, Outcome, Answered, Entry, Reply, Record, Row, journal, is_held}
+use Rattle.cbdc_model.specs.Records.{is_won, Genesis, Lock, Finish, Start, Prepare, Commit, lock_of, txs_of, outcomes_of}
 use Rattle.cbdc_model.specs.Replies.{entries}
-use Rattle.cbdc_model.specs.Status.{Status, status, has, held_inputs, made_outputs, taken_inputs, returned_inputs, finished_status, Unspent, Locked, Absent}
+use Rattle.cbdc_model.specs.Status.{Status, status, has, held_inputs, made_outputs, taken_inputs, returned_inputs, finished_status, Unspent, Locked}
+use Rattle.cbdc_model.specs.Status.{Absent}
 use Rattle.ledger_laws.proofs.Next.{Next, has_lock, has_finish, has_commit, Each}
 use Rattle.ledger_laws.proofs.Counts.{count, count-append, has-count, count-has}
-use Rattle.ledger_laws.proofs.Parts.{IsPart, is_part, won_by, won_by-won_txs, decided, count-made, count-taken, count-held, agrees, won-le-held, outcome_held, won_at-outcomes}
+use Rattle.ledger_laws.proofs.Parts.{IsPart, is_part, won_by, won_by-won_txs, decided, count-made, count-taken, count-held, agrees, won-le-held}
+use Rattle.ledger_laws.proofs.Parts.{outcome_held, won_at-outcomes}
 use Rattle.ledger_laws.proofs.Replies.{answered_held, answered_once, EachOnce}
 use Rattle.ledger_laws.proofs.View.{View, measured, Inv, same, other, same_or_not}
 use Rattle.ledger_laws.proofs.LockStep.{Locks, lock_kept}
@@ -35,26 +39,32 @@ module _ (K : Shape) (P : Compact → Type 0) (past : List Row) (st : Structure 
 
     prepare_won : (c : Batch) → won_of K (record { node = node; what = Prepare stamp b txs } ∷ past) c ≡ won_of K past c
     prepare_won c =
-        let same_outcomes : outcomes_of (lane_journal K (record { node = node; what = Prepare stamp b txs } ∷ past) c) c ≡ outcomes_of (lane_journal K past c) c
+        let same_outcomes : outcomes_of (lane_journal K (record { node = node; what = Prepare stamp b txs } ∷ past) c) c
+        ≡ outcomes_of (lane_journal K past c) c
         = unchanged (λ J. outcomes_of J c) (c.lane / K.lanes) (record { node = node; what = Prepare stamp b txs }) past refl in
         elim (same_or_not b c) [
           | same e ↦
-              let none : outcomes_of (lane_journal K past c) c ≡ [] = subst (λ d. outcomes_of (lane_journal K past d) d ≡ []) e (no_commit (lane_journal K past b) b not_committed) in
+              let none : outcomes_of (lane_journal K past c) c ≡ [] =
+              subst (λ d. outcomes_of (lane_journal K past d) d ≡ []) e (no_commit (lane_journal K past b) b not_committed) in
               ap (won_txs (txs_of (lane_journal K (record { node = node; what = Prepare stamp b txs } ∷ past) c) c)) (same_outcomes ∙ none)
               ∙ won_txs-nil _ ∙ sym (won_txs-nil (txs_of (lane_journal K past c) c))
               ∙ ap (won_txs (txs_of (lane_journal K past c) c)) (sym none)
           | other o ↦ λ i. won_txs (txs_other c o i) (same_outcomes i)
         ]
       where
-        txs_other : (c : Batch) → same_batch b c ≡ false → txs_of (lane_journal K (record { node = node; what = Prepare stamp b txs } ∷ past) c) c ≡ txs_of (lane_journal K past c) c
+        txs_other : (c : Batch) → same_batch b c ≡ false
+            → txs_of (lane_journal K (record { node = node; what = Prepare stamp b txs } ∷ past) c) c ≡ txs_of (lane_journal K past c) c
         txs_other c o = grind arith
 
     pub prepare_view : view K (record { node = node; what = Prepare stamp b txs } ∷ past) ≡ view K past
-    prepare_view = same_view K past (record { node = node; what = Prepare stamp b txs }) (λ J c. refl) (λ J c. refl) (λ J x. refl) (λ J x. refl) prepare_won refl
+    prepare_view = same_view K past (record { node = node; what = Prepare stamp b txs }) (λ J c. refl) (λ J c. refl) (λ J x. refl) (λ J x. refl)
+        prepare_won refl
 
   -- Lock, by a measure of how often it holds a hash: the count itself, or whether it does at all
-  module _ (f : ℕ → ℕ) (f_none : f 0 ≡ 0) (f_some : (n : ℕ) → 0 < f n → 0 < n) (f_zero : (n : ℕ) → f n ≡ 0 → n ≡ 0) (node stamp : ℕ) (b : Batch) (es : List Answered)
-      (next : Next K node (journal node past) (Lock stamp b es)) (once : (x : Digest) → node ≡ shard_node K (shard_of K.shards x) → f (count x (held_inputs es)) ≤ 1) where
+  module _ (f : ℕ → ℕ) (f_none : f 0 ≡ 0) (f_some : (n : ℕ) → 0 < f n → 0 < n) (f_zero : (n : ℕ) → f n ≡ 0 → n ≡ 0) (node stamp : ℕ) (b : Batch)
+      (es : List Answered)
+      (next : Next K node (journal node past) (Lock stamp b es))
+      (once : (x : Digest) → node ≡ shard_node K (shard_of K.shards x) → f (count x (held_inputs es)) ≤ 1) where
     pub held_now : Digest → ℕ
     held_now x = if node == shard_node K (shard_of K.shards x) then f (count x (held_inputs es)) else 0
 
@@ -99,7 +109,8 @@ module _ (K : Shape) (P : Compact → Type 0) (past : List Row) (st : Structure 
       ]
 
       none_before : node ≡ shard_node K (shard_of K.shards x) → f (count x (held_inputs (lock_of (journal_at K past x) b))) ≡ 0
-      none_before e = ap (λ a. f (count x (held_inputs a))) (no_lock (journal_at K past x) b (subst (λ n. has_lock (journal n past) b ≡ false) e unlocked)) ∙ f_none
+      none_before e = ap (λ a. f (count x (held_inputs a)))
+          (no_lock (journal_at K past x) b (subst (λ n. has_lock (journal n past) b ≡ false) e unlocked)) ∙ f_none
 
       lock_fresh : 0 < held_now x → (has_finish (journal_at K past x) b ≡ false) × (f (count x (held_inputs (lock_of (journal_at K past x) b))) ≡ 0)
       lock_fresh h = elim (at_node node (shard_node K (shard_of K.shards x))) [
@@ -112,16 +123,19 @@ module _ (K : Shape) (P : Compact → Type 0) (past : List Row) (st : Structure 
 
       lock_locked : 0 < held_now x → status (journal_at K (record { node = node; what = Lock stamp b es } ∷ past) x) x ≡ Locked b
       lock_locked h = elim (at_node node (shard_node K (shard_of K.shards x))) [
-        | at e ↦ ap (λ J. status J x) (head_at (record { node = node; what = Lock stamp b es }) past _ e) ∙ lock_status (f_some _ (omega (arith, now_at x e)))
+        | at e ↦ ap (λ J. status J x) (head_at (record { node = node; what = Lock stamp b es }) past _ e)
+            ∙ lock_status (f_some _ (omega (arith, now_at x e)))
         | away e ↦ absurd (omega (arith, now_away x e))
       ]
 
       lock_not_named : count x (held_inputs es) ≡ 0 → status (Lock stamp b es ∷ journal_at K past x) x ≡ status (journal_at K past x) x
       lock_not_named z = grind (arith, has-count x (held_inputs es))
 
-      lock_others : held_now x ≡ 0 → status (journal_at K (record { node = node; what = Lock stamp b es } ∷ past) x) x ≡ status (journal_at K past x) x
+      lock_others : held_now x ≡ 0 → status (journal_at K (record { node = node; what = Lock stamp b es } ∷ past) x) x
+          ≡ status (journal_at K past x) x
       lock_others z = elim (at_node node (shard_node K (shard_of K.shards x))) [
-        | at e ↦ ap (λ J. status J x) (head_at (record { node = node; what = Lock stamp b es }) past _ e) ∙ lock_not_named (f_zero _ (sym (now_at x e) ∙ z))
+        | at e ↦ ap (λ J. status J x) (head_at (record { node = node; what = Lock stamp b es }) past _ e)
+            ∙ lock_not_named (f_zero _ (sym (now_at x e) ∙ z))
         | away e ↦ ap (λ J. status J x) (head_away (record { node = node; what = Lock stamp b es }) past _ e)
       ]
 
@@ -129,16 +143,24 @@ module _ (K : Shape) (P : Compact → Type 0) (past : List Row) (st : Structure 
           ≡ f (count x (held_inputs (lock_of (journal_at K past x) b))) + held_now x
       lock_holds = elim (at_node node (shard_node K (shard_of K.shards x))) [
         | at e ↦
-            let now : f (count x (held_inputs (lock_of (journal_at K (record { node = node; what = Lock stamp b es } ∷ past) x) b))) ≡ f (count x (held_inputs es))
+            let now : f (count x (held_inputs (lock_of (journal_at K (record { node = node; what = Lock stamp b es } ∷ past) x) b)))
+            ≡ f (count x (held_inputs es))
             = ap (λ J. f (count x (held_inputs (lock_of J b)))) (head_at (record { node = node; what = Lock stamp b es }) past _ e)
             ∙ ap (λ a. f (count x (held_inputs a))) (lock_of_head (journal_at K past x)) in
             omega (arith, now, none_before e, now_at x e)
-        | away e ↦ omega (arith, now_away x e, ap (λ J. f (count x (held_inputs (lock_of J b)))) (head_away (record { node = node; what = Lock stamp b es }) past _ e))
+        | away e ↦ omega (
+          arith,
+          now_away x e,
+          ap (λ J. f (count x (held_inputs (lock_of J b)))) (head_away (record { node = node; what = Lock stamp b es }) past _ e),
+        )
       ]
 
       lock_other_batches : (c : Batch) → same_batch b c ≡ false
-          → f (count x (held_inputs (lock_of (journal_at K (record { node = node; what = Lock stamp b es } ∷ past) x) c))) ≡ f (count x (held_inputs (lock_of (journal_at K past x) c)))
-      lock_other_batches c o = ap (λ a. f (count x (held_inputs a))) (unchanged (λ J. lock_of J c) (shard_node K (shard_of K.shards x)) (record { node = node; what = Lock stamp b es }) past (lock_of_behind c (journal_at K past x) o))
+          → f (count x (held_inputs (lock_of (journal_at K (record { node = node; what = Lock stamp b es } ∷ past) x) c)))
+          ≡ f (count x (held_inputs (lock_of (journal_at K past x) c)))
+      lock_other_batches c o = ap (λ a. f (count x (held_inputs a)))
+          (unchanged (λ J. lock_of J c) (shard_node K (shard_of K.shards x)) (record { node = node; what = Lock stamp b es }) past
+          (lock_of_behind c (journal_at K past x) o))
 
     pub lock_measured : Locks (measured f (view K past)) (measured f (view K (record { node = node; what = Lock stamp b es } ∷ past))) b held_now
     lock_measured = record {
@@ -152,11 +174,14 @@ module _ (K : Shape) (P : Compact → Type 0) (past : List Row) (st : Structure 
       arrived = λ x. unchanged (λ J. arrived J x) (shard_node K (shard_of K.shards x)) (record { node = node; what = Lock stamp b es }) past refl;
       spent = λ x. ap (λ ts. count x (all_inputs ts)) (append-nil (committed past));
       made = λ x. ap (λ ts. count x (all_outputs ts)) (append-nil (committed past));
-      takes = λ c x i. count x (all_inputs (won_txs (unchanged (λ J. txs_of J c) (c.lane / K.lanes) (record { node = node; what = Lock stamp b es }) past refl i)
+      takes = λ c x i. count x (all_inputs (won_txs
+          (unchanged (λ J. txs_of J c) (c.lane / K.lanes) (record { node = node; what = Lock stamp b es }) past refl i)
           (unchanged (λ J. outcomes_of J c) (c.lane / K.lanes) (record { node = node; what = Lock stamp b es }) past refl i)));
-      makes = λ c x i. count x (all_outputs (won_txs (unchanged (λ J. txs_of J c) (c.lane / K.lanes) (record { node = node; what = Lock stamp b es }) past refl i)
+      makes = λ c x i. count x (all_outputs (won_txs
+          (unchanged (λ J. txs_of J c) (c.lane / K.lanes) (record { node = node; what = Lock stamp b es }) past refl i)
           (unchanged (λ J. outcomes_of J c) (c.lane / K.lanes) (record { node = node; what = Lock stamp b es }) past refl i)));
-      finished = λ c x. unchanged (λ J. has_finish J c) (shard_node K (shard_of K.shards x)) (record { node = node; what = Lock stamp b es }) past refl;
+      finished = λ c x. unchanged (λ J. has_finish J c) (shard_node K (shard_of K.shards x)) (record { node = node; what = Lock stamp b es }) past
+          refl;
     }
 
   -- the count itself, where each entry's inputs are apart
@@ -166,7 +191,8 @@ module _ (K : Shape) (P : Compact → Type 0) (past : List Row) (st : Structure 
     count-on_shard-le shards s x [] = omega arith
     count-on_shard-le shards s x (y ∷ ys) = on_more shards s x y ys (count-on_shard-le shards s x ys)
       where
-        on_more : (shards s : ℕ) (x y : Digest) (ys : List Digest) → count x (on_shard shards s ys) ≤ count x ys → count x (on_shard shards s (y ∷ ys)) ≤ count x (y ∷ ys)
+        on_more : (shards s : ℕ) (x y : Digest) (ys : List Digest) → count x (on_shard shards s ys) ≤ count x ys
+            → count x (on_shard shards s (y ∷ ys)) ≤ count x (y ∷ ys)
         on_more shards s x y ys h = grind arith
 
     each_once : (shards s k : ℕ) (x : Digest) (txs : List Compact) → Each P txs → EachOnce x (part shards s k txs)
@@ -221,7 +247,8 @@ module _ (K : Shape) (P : Compact → Type 0) (past : List Row) (st : Structure 
               ∙ sym (no_part (part K.shards (shard_of K.shards x) 0 (txs_of (lane_journal K past b) b)) (unconcerned x h))
         ] refl
       where
-        unconcerned : (x : Digest) → has_lock (journal_at K past x) b ≡ false → is_no_part (part K.shards (shard_of K.shards x) 0 (txs_of (lane_journal K past b) b)) ≡ true
+        unconcerned : (x : Digest) → has_lock (journal_at K past x) b ≡ false
+            → is_no_part (part K.shards (shard_of K.shards x) 0 (txs_of (lane_journal K past b) b)) ≡ true
         unconcerned x h = elim (is_no_part (part K.shards (shard_of K.shards x) 0 (txs_of (lane_journal K past b) b)))
             as (λ c. is_no_part (part K.shards (shard_of K.shards x) 0 (txs_of (lane_journal K past b) b)) ≡ c → c ≡ true) [
               | true ↦ λ _. refl
@@ -232,7 +259,8 @@ module _ (K : Shape) (P : Compact → Type 0) (past : List Row) (st : Structure 
     newly_is x = subst (λ n. won_by (won_at os) 0 (txs_of (lane_journal K past b) b) ≡ won_txs (txs_of (journal n past) b) os) (sym next.2)
         (won_by-won_txs (won_at os) 0 (txs_of (lane_journal K past b) b) os (λ i. ap (won_at os) (omega arith)))
 
-    won_is_held : (x : Digest) (j : ℕ) (r : Reply) → 0 ≤ j → reply_at (lock_of (journal_at K past x) b) j ≡ Some r → won_at os j ≡ true → is_held r ≡ true
+    won_is_held : (x : Digest) (j : ℕ) (r : Reply) → 0 ≤ j → reply_at (lock_of (journal_at K past x) b) j ≡ Some r → won_at os j ≡ true
+        → is_held r ≡ true
     won_is_held x j r le is won =
         outcome_held (locks_at K past b) (0 + j) 0 K.shards (shard_of K.shards x) r
         (won_at-outcomes (locks_at K past b) K.shards 0 (txs_of (lane_journal K past b) b) j (subst (λ os. won_at os j ≡ true) caused.1 won))
@@ -246,7 +274,8 @@ module _ (K : Shape) (P : Compact → Type 0) (past : List Row) (st : Structure 
         subst (λ ts. count x (all_inputs ts) ≤ count x (held_inputs (lock_of (journal_at K past x) b))) (newly_is x)
         (won-le-held x (won_at os) p (agrees x (won_at os) p (won_is_held x)))
 
-    outcomes_other : (n : ℕ) (c : Batch) → same_batch b c ≡ false → outcomes_of (journal n (record { node = node; what = Commit stamp b os } ∷ past)) c ≡ outcomes_of (journal n past) c
+    outcomes_other : (n : ℕ) (c : Batch) → same_batch b c ≡ false
+        → outcomes_of (journal n (record { node = node; what = Commit stamp b os } ∷ past)) c ≡ outcomes_of (journal n past) c
     outcomes_other n c e = grind arith
 
     outcomes_head : (J : List Record) → outcomes_of (Commit stamp b os ∷ J) b ≡ os
@@ -254,9 +283,11 @@ module _ (K : Shape) (P : Compact → Type 0) (past : List Row) (st : Structure 
 
     won_new : won_of K (record { node = node; what = Commit stamp b os } ∷ past) b ≡ newly
     won_new =
-        let J : journal (b.lane / K.lanes) (record { node = node; what = Commit stamp b os } ∷ past) ≡ Commit stamp b os ∷ journal (b.lane / K.lanes) past
+        let J : journal (b.lane / K.lanes) (record { node = node; what = Commit stamp b os } ∷ past)
+        ≡ Commit stamp b os ∷ journal (b.lane / K.lanes) past
         = head_at (record { node = node; what = Commit stamp b os }) past (b.lane / K.lanes) next.2 in
-        (λ i. won_txs (txs_of (J i) b) (outcomes_of (J i) b)) ∙ ap (won_txs (txs_of (journal (b.lane / K.lanes) past) b)) (outcomes_head (journal (b.lane / K.lanes) past))
+        (λ i. won_txs (txs_of (J i) b) (outcomes_of (J i) b))
+        ∙ ap (won_txs (txs_of (journal (b.lane / K.lanes) past) b)) (outcomes_head (journal (b.lane / K.lanes) past))
         ∙ ap (λ n. won_txs (txs_of (journal n past) b) os) (sym next.2)
 
     won_other : (c : Batch) → same_batch b c ≡ false → won_of K (record { node = node; what = Commit stamp b os } ∷ past) c ≡ won_of K past c
@@ -264,15 +295,26 @@ module _ (K : Shape) (P : Compact → Type 0) (past : List Row) (st : Structure 
         (outcomes_other (c.lane / K.lanes) c o i)
 
     won_before : won_of K past b ≡ []
-    won_before = ap (won_txs (txs_of (lane_journal K past b) b)) (no_commit (lane_journal K past b) b uncommitted) ∙ won_txs-nil (txs_of (lane_journal K past b) b)
+    won_before = ap (won_txs (txs_of (lane_journal K past b) b)) (no_commit (lane_journal K past b) b uncommitted)
+        ∙ won_txs-nil (txs_of (lane_journal K past b) b)
 
     all_inputs-append : (x : Digest) (ts us : List Compact) → count x (all_inputs (ts ++ us)) ≡ count x (all_inputs ts) + count x (all_inputs us)
     all_inputs-append x [] us = omega arith
-    all_inputs-append x (t ∷ ts) us = omega (arith, count-append x t.inputs (all_inputs (ts ++ us)), count-append x t.inputs (all_inputs ts), all_inputs-append x ts us)
+    all_inputs-append x (t ∷ ts) us = omega (
+      arith,
+      count-append x t.inputs (all_inputs (ts ++ us)),
+      count-append x t.inputs (all_inputs ts),
+      all_inputs-append x ts us,
+    )
 
     all_outputs-append : (x : Digest) (ts us : List Compact) → count x (all_outputs (ts ++ us)) ≡ count x (all_outputs ts) + count x (all_outputs us)
     all_outputs-append x [] us = omega arith
-    all_outputs-append x (t ∷ ts) us = omega (arith, count-append x t.outputs (all_outputs (ts ++ us)), count-append x t.outputs (all_outputs ts), all_outputs-append x ts us)
+    all_outputs-append x (t ∷ ts) us = omega (
+      arith,
+      count-append x t.outputs (all_outputs (ts ++ us)),
+      count-append x t.outputs (all_outputs ts),
+      all_outputs-append x ts us,
+    )
 
     pub commit_changes : Commits P (view K past) (view K (record { node = node; what = Commit stamp b os } ∷ past)) b newly
     commit_changes = record {
@@ -289,8 +331,10 @@ module _ (K : Shape) (P : Compact → Type 0) (past : List Row) (st : Structure 
       other_makes = λ c x o. ap (λ ts. count x (all_outputs ts)) (won_other c o);
       status = λ x. unchanged (λ J. status J x) (shard_node K (shard_of K.shards x)) (record { node = node; what = Commit stamp b os }) past refl;
       arrived = λ x. unchanged (λ J. arrived J x) (shard_node K (shard_of K.shards x)) (record { node = node; what = Commit stamp b os }) past refl;
-      finished = λ c x. unchanged (λ J. has_finish J c) (shard_node K (shard_of K.shards x)) (record { node = node; what = Commit stamp b os }) past refl;
-      holds = λ c x. ap (λ a. count x (held_inputs a)) (unchanged (λ J. lock_of J c) (shard_node K (shard_of K.shards x)) (record { node = node; what = Commit stamp b os }) past refl);
+      finished = λ c x. unchanged (λ J. has_finish J c) (shard_node K (shard_of K.shards x)) (record { node = node; what = Commit stamp b os }) past
+          refl;
+      holds = λ c x. ap (λ a. count x (held_inputs a))
+          (unchanged (λ J. lock_of J c) (shard_node K (shard_of K.shards x)) (record { node = node; what = Commit stamp b os }) past refl);
     }
 
   -- Finish
@@ -307,7 +351,8 @@ module _ (K : Shape) (P : Compact → Type 0) (past : List Row) (st : Structure 
     decisions-decided os (a ∷ es) = ap (λ ds. won_at os a.entry.place ∷ ds) (decisions-decided os es)
 
     -- by the tests of lists, what the Finish makes of the status
-    status_made : (es : List Answered) (ds : List Bool) (x : Digest) (before : Status) → 0 < count x (made_outputs es ds) → finished_status es ds x before ≡ Unspent
+    status_made : (es : List Answered) (ds : List Bool) (x : Digest) (before : Status) → 0 < count x (made_outputs es ds)
+        → finished_status es ds x before ≡ Unspent
     status_made es ds x before h = rw (count-has x (made_outputs es ds) h)
 
     status_returned : (es : List Answered) (ds : List Bool) (x : Digest) (before : Status) → count x (made_outputs es ds) ≡ 0
@@ -350,21 +395,24 @@ module _ (K : Shape) (P : Compact → Type 0) (past : List Row) (st : Structure 
       is_locked = subst (λ n. has_lock (journal n past) b ≡ true) at_here slot_facts.0
 
       part_here : IsPart x 0 (txs_of (lane_journal K past b) b) (lock_of (journal_at K past x) b)
-      part_here = is_part K.shards x 0 (txs_of (lane_journal K past b) b) (lock_of (journal_at K past x) b) (st.lock_part (shard_of K.shards x) b is_locked)
+      part_here = is_part K.shards x 0 (txs_of (lane_journal K past b) b) (lock_of (journal_at K past x) b)
+          (st.lock_part (shard_of K.shards x) b is_locked)
 
       ds_is : ds ≡ decided (won_at (outcomes_of (lane_journal K past b) b)) (lock_of (journal_at K past x) b)
       ds_is = subst (λ n. ds ≡ decisions (outcomes_of (lane_journal K past b) b) (entries (lock_of (journal n past) b))) at_here caused.1
           ∙ decisions-decided (outcomes_of (lane_journal K past b) b) (lock_of (journal_at K past x) b)
 
       won_is : won_by (won_at (outcomes_of (lane_journal K past b) b)) 0 (txs_of (lane_journal K past b) b) ≡ won_of K past b
-      won_is = won_by-won_txs (won_at (outcomes_of (lane_journal K past b) b)) 0 (txs_of (lane_journal K past b) b) (outcomes_of (lane_journal K past b) b)
+      won_is = won_by-won_txs (won_at (outcomes_of (lane_journal K past b) b)) 0 (txs_of (lane_journal K past b) b)
+          (outcomes_of (lane_journal K past b) b)
           (λ i. ap (won_at (outcomes_of (lane_journal K past b) b)) (omega arith))
 
       fits : FitsReplies (lock_of (journal_at K past x) b) ds
       fits = subst (λ n. FitsReplies (lock_of (journal n past) b) ds) at_here next.4
 
       finishes_here : FinishesAt (view K past) (view K (record { node = node; what = Finish stamp b ds } ∷ past)) b x
-          (count x (made_outputs (lock_of (journal_at K past x) b) ds)) (count x (returned_inputs (lock_of (journal_at K past x) b) ds)) (count x (taken_inputs (lock_of (journal_at K past x) b) ds))
+          (count x (made_outputs (lock_of (journal_at K past x) b) ds)) (count x (returned_inputs (lock_of (journal_at K past x) b) ds))
+          (count x (taken_inputs (lock_of (journal_at K past x) b) ds))
       finishes_here = record {
         unfinished = subst (λ n. has_finish (journal n past) b ≡ false) at_here slot_facts.1;
         makes_is = ap (λ d. count x (made_outputs (lock_of (journal_at K past x) b) d)) ds_is
@@ -388,17 +436,22 @@ module _ (K : Shape) (P : Compact → Type 0) (past : List Row) (st : Structure 
         | away e ↦ elsewhere (record {
           status = ap (λ J. status J x) (head_away (record { node = node; what = Finish stamp b ds }) past (shard_node K (shard_of K.shards x)) e);
           arrived = ap (λ J. arrived J x) (head_away (record { node = node; what = Finish stamp b ds }) past (shard_node K (shard_of K.shards x)) e);
-          finished = λ c. ap (λ J. has_finish J c) (head_away (record { node = node; what = Finish stamp b ds }) past (shard_node K (shard_of K.shards x)) e);
+          finished = λ c. ap (λ J. has_finish J c)
+              (head_away (record { node = node; what = Finish stamp b ds }) past (shard_node K (shard_of K.shards x)) e);
         })
       ];
-      others = λ c x o. unchanged (λ J. has_finish J c) (shard_node K (shard_of K.shards x)) (record { node = node; what = Finish stamp b ds }) past (finish_behind c (journal_at K past x) o);
+      others = λ c x o. unchanged (λ J. has_finish J c) (shard_node K (shard_of K.shards x)) (record { node = node; what = Finish stamp b ds }) past
+          (finish_behind c (journal_at K past x) o);
       spent = λ x. ap (λ ts. count x (all_inputs ts)) (append-nil (committed past));
       made = λ x. ap (λ ts. count x (all_outputs ts)) (append-nil (committed past));
-      takes = λ c x i. count x (all_inputs (won_txs (unchanged (λ J. txs_of J c) (c.lane / K.lanes) (record { node = node; what = Finish stamp b ds }) past refl i)
+      takes = λ c x i. count x (all_inputs (won_txs
+          (unchanged (λ J. txs_of J c) (c.lane / K.lanes) (record { node = node; what = Finish stamp b ds }) past refl i)
           (unchanged (λ J. outcomes_of J c) (c.lane / K.lanes) (record { node = node; what = Finish stamp b ds }) past refl i)));
-      makes = λ c x i. count x (all_outputs (won_txs (unchanged (λ J. txs_of J c) (c.lane / K.lanes) (record { node = node; what = Finish stamp b ds }) past refl i)
+      makes = λ c x i. count x (all_outputs (won_txs
+          (unchanged (λ J. txs_of J c) (c.lane / K.lanes) (record { node = node; what = Finish stamp b ds }) past refl i)
           (unchanged (λ J. outcomes_of J c) (c.lane / K.lanes) (record { node = node; what = Finish stamp b ds }) past refl i)));
-      holds = λ c x. ap (λ a. count x (held_inputs a)) (unchanged (λ J. lock_of J c) (shard_node K (shard_of K.shards x)) (record { node = node; what = Finish stamp b ds }) past refl);
+      holds = λ c x. ap (λ a. count x (held_inputs a))
+          (unchanged (λ J. lock_of J c) (shard_node K (shard_of K.shards x)) (record { node = node; what = Finish stamp b ds }) past refl);
     }
 
 -- what a row that is next and caused does to the view: nothing, or what its Lock, its Commit or its Finish does
@@ -409,7 +462,8 @@ pub data ViewStep (P : Compact → Type 0) (v w : View) : Type 0 where
   by_finish : (b : Batch) → Finishes v w b → ViewStep P v w
 
 pub view_step : (K : Shape) (P : Compact → Type 0) {genesis : Digest → ℕ} (past : List Row) → 0 < K.shards → Apart genesis P → Structure K P past
-    → (node : ℕ) (r : Record) → Next K node (journal node past) r → IsCaused K (λ n. journal n past) node r → ViewStep P (view K past) (view K (record { node = node; what = r } ∷ past))
+    → (node : ℕ) (r : Record) → Next K node (journal node past) r → IsCaused K (λ n. journal n past) node r
+    → ViewStep P (view K past) (view K (record { node = node; what = r } ∷ past))
 view_step K P past shards apart st node (Genesis header hs) next caused = absurd next
 view_step K P past shards apart st node (Start header) next caused = absurd next
 view_step K P past shards apart st node (Lock stamp b es) next caused =
@@ -419,11 +473,14 @@ view_step K P past shards apart st node (Prepare stamp b txs) next caused = no_c
 view_step K P past shards apart st node (Commit stamp b os) next caused =
     by_commit b (newly K P past st node stamp b os shards next caused) (commit_changes K P past st node stamp b os shards next caused)
 view_step K P past shards apart st node another next caused =
-    no_change (quiet_view K past (record { node = node; what = another }) (λ J c. refl) (λ J c. refl) (λ J x. refl) (λ J x. refl) (λ J c. refl) (λ J c. refl) refl)
+    no_change (quiet_view K past (record { node = node; what = another }) (λ J c. refl) (λ J c. refl) (λ J x. refl) (λ J x. refl) (λ J c. refl)
+    (λ J c. refl) refl)
 
 -- any row that is next and caused keeps the invariant
-pub inv_next : (K : Shape) (P : Compact → Type 0) (genesis : Digest → ℕ) (past : List Row) → 0 < K.shards → Apart genesis P → Structure K P past → Inv genesis P (view K past)
-    → (node : ℕ) (r : Record) → Next K node (journal node past) r → IsCaused K (λ n. journal n past) node r → Inv genesis P (view K (record { node = node; what = r } ∷ past))
+pub inv_next : (K : Shape) (P : Compact → Type 0) (genesis : Digest → ℕ) (past : List Row) → 0 < K.shards → Apart genesis P → Structure K P past
+    → Inv genesis P (view K past)
+    → (node : ℕ) (r : Record) → Next K node (journal node past) r → IsCaused K (λ n. journal n past) node r
+    → Inv genesis P (view K (record { node = node; what = r } ∷ past))
 inv_next K P genesis past shards apart st inv node r next caused = elim (view_step K P past shards apart st node r next caused) [
   | no_change e ↦ subst (λ v. Inv genesis P v) (sym e) inv
   | by_lock b held step ↦ lock_kept inv b held step

@@ -50,10 +50,12 @@ module _ (K : Shape) (minting : Minted) (P : Compact → Type 0) (past : List Ro
   place_book x (comes b m f) = omega (arith, inv.pending x b m f, inv.spent_le x, inv.makes_le x b, inv.made_once x)
 
   -- no hash is in two of them
-  pub unspent-comes : (x : Digest) (b : Batch) → status (journal_at K past x) x ≡ Unspent → 0 < count x (all_outputs (won_of K past b)) → has_finish (journal_at K past x) b ≡ false → ⊥
+  pub unspent-comes : (x : Digest) (b : Batch) → status (journal_at K past x) x ≡ Unspent → 0 < count x (all_outputs (won_of K past b))
+      → has_finish (journal_at K past x) b ≡ false → ⊥
   unspent-comes x b e m f = omega (arith, inv.unspent x e, inv.pending x b m f)
 
-  pub locked-comes : (x : Digest) (b c : Batch) → status (journal_at K past x) x ≡ Locked b → 0 < count x (all_outputs (won_of K past c)) → has_finish (journal_at K past x) c ≡ false → ⊥
+  pub locked-comes : (x : Digest) (b c : Batch) → status (journal_at K past x) x ≡ Locked b → 0 < count x (all_outputs (won_of K past c))
+      → has_finish (journal_at K past x) c ≡ false → ⊥
   locked-comes x b c e m f = omega (arith, inv.locked x b e, inv.pending x c m f)
 
   -- no output is made twice, none is spent twice, and what is spent was made

@@ -1,5 +1,6 @@
 -- What all lanes of a wave made keeps the world.
-use Rattle.std.proofs.Common.{◌≡◌, ◌⊎◌, inl, inr, ℕ, suc, ◌+◌, ◌<◌, ◌≤◌, true, false, nat_lt, List, [], ◌∷◌, ◌++◌, Some, length, length-append, refl, sym, ap, ◌∙◌, subst, arith, append_assoc}
+use Rattle.std.proofs.Common.{◌≡◌, ◌⊎◌, inl, inr, ℕ, suc, ◌+◌, ◌<◌, ◌≤◌, true, false, nat_lt, List, [], ◌∷◌, ◌++◌, Some, length, length-append, refl}
+use Rattle.std.proofs.Common.{sym, ap, ◌∙◌, subst, arith, append_assoc}
 use Rattle.cbdc_model.specs.Causes.{IsCaused}
 use Rattle.cbdc_model.specs.History.{header_of, first_rows, Minted}
 use Rattle.cbdc_model.specs.Lanes.{IsEnd, Seen, Holds, may_come, first_of, AllPass, Wave}
@@ -34,14 +35,17 @@ module _ (K : Shape) (minting : Minted) (P : Compact → Type 0) (shards : 0 < K
   whole later n = journal n (later ++ first_rows K minting)
 
   abbrev Below : List Row → ℕ → Type 0
-  Below later n = (newer rest : List Record) (r : Record) → whole later n ≡ newer ++ r ∷ rest → IsEnd (first_of K minting n) rest → Next K n rest r × Seen K (whole later) n rest r × AllProper P r × IsInGrammar (header_of K minting.id n) r
+  Below later n = (newer rest : List Record) (r : Record) → whole later n ≡ newer ++ r ∷ rest → IsEnd (first_of K minting n) rest
+      → Next K n rest r × Seen K (whole later) n rest r × AllProper P r × IsInGrammar (header_of K minting.id n) r
 
   -- each record of a kept history was caused by the records before it
-  each_kept : (later : List Row) → Steady K minting P later → (n : ℕ) (newer rest : List Record) (r : Record) → whole later n ≡ newer ++ r ∷ rest → IsEnd (first_of K minting n) rest
+  each_kept : (later : List Row) → Steady K minting P later → (n : ℕ) (newer rest : List Record) (r : Record) → whole later n ≡ newer ++ r ∷ rest
+      → IsEnd (first_of K minting n) rest
       → Next K n rest r × Seen K (whole later) n rest r × AllProper P r × IsInGrammar (header_of K minting.id n) r
   each_kept [] kept n newer rest r e h = absurd (no_room (first_of K minting n) newer rest r h.0 h.1 e)
   each_kept (row ∷ later) kept n newer rest r e h = elim (at_node row.node n) [
-    | away a ↦ older (λ newer rest r e h. each_kept later kept.3 n newer rest r e h) newer rest r (sym (head_away row (later ++ first_rows K minting) n a) ∙ e) h
+    | away a ↦ older (λ newer rest r e h. each_kept later kept.3 n newer rest r e h) newer rest r
+        (sym (head_away row (later ++ first_rows K minting) n a) ∙ e) h
     | at a ↦ here (λ newer rest r e h. each_kept later kept.3 n newer rest r e h) newer (sym (head_at row (later ++ first_rows K minting) n a) ∙ e) a
   ]
     where
@@ -51,10 +55,13 @@ module _ (K : Shape) (minting : Minted) (P : Compact → Type 0) (shards : 0 < K
         | away a ↦ ([], head_away row (later ++ first_rows K minting) m a)
       ]
 
-      older : Below later n → (newer rest : List Record) (r : Record) → whole later n ≡ newer ++ r ∷ rest → IsEnd (first_of K minting n) rest → Next K n rest r × Seen K (whole (row ∷ later)) n rest r × AllProper P r × IsInGrammar (header_of K minting.id n) r
-      older below newer rest r e h = let f = below newer rest r e h in (f.0, seen_grows K (whole later) (whole (row ∷ later)) n rest r grown f.1, f.2, f.3)
+      older : Below later n → (newer rest : List Record) (r : Record) → whole later n ≡ newer ++ r ∷ rest → IsEnd (first_of K minting n) rest
+          → Next K n rest r × Seen K (whole (row ∷ later)) n rest r × AllProper P r × IsInGrammar (header_of K minting.id n) r
+      older below newer rest r e h = let f = below newer rest r e h in
+          (f.0, seen_grows K (whole later) (whole (row ∷ later)) n rest r grown f.1, f.2, f.3)
 
-      here : Below later n → (newer : List Record) → row.what ∷ whole later n ≡ newer ++ r ∷ rest → row.node ≡ n → Next K n rest r × Seen K (whole (row ∷ later)) n rest r × AllProper P r × IsInGrammar (header_of K minting.id n) r
+      here : Below later n → (newer : List Record) → row.what ∷ whole later n ≡ newer ++ r ∷ rest → row.node ≡ n
+          → Next K n rest r × Seen K (whole (row ∷ later)) n rest r × AllProper P r × IsInGrammar (header_of K minting.id n) r
       here below (q ∷ newer) e a = older below newer rest r (cons_same row.what q (whole later n) (newer ++ r ∷ rest) e).1 h
       here below [] e a =
           let s : (row.what ≡ r) × (whole later n ≡ rest) = cons_same row.what r (whole later n) rest e in
@@ -88,8 +95,10 @@ module _ (K : Shape) (minting : Minted) (P : Compact → Type 0) (shards : 0 < K
     rising_of n newer [] e = tt
     rising_of n newer (r ∷ more) e =
         let rest : Rising more = rising_of n (newer ++ r ∷ []) more (e ∙ sym (append_assoc newer (r ∷ []) more)) in
-        let place : X n ≡ newer ++ r ∷ (more ++ first_of K minting n) = (kept.begins n).1 ∙ ap (λ L. L ++ first_of K minting n) e ∙ append_assoc newer (r ∷ more) (first_of K minting n) in
-        let lt : last_stamp (more ++ first_of K minting n) < stamp_of r = after_stamp K n (more ++ first_of K minting n) r (kept.each n newer (more ++ first_of K minting n) r place (more, refl)).0 in
+        let place : X n ≡ newer ++ r ∷ (more ++ first_of K minting n) =
+        (kept.begins n).1 ∙ ap (λ L. L ++ first_of K minting n) e ∙ append_assoc newer (r ∷ more) (first_of K minting n) in
+        let lt : last_stamp (more ++ first_of K minting n) < stamp_of r =
+        after_stamp K n (more ++ first_of K minting n) r (kept.each n newer (more ++ first_of K minting n) r place (more, refl)).0 in
         (all_below more (first_of K minting n) (stamp_of r) lt rest, rest)
       where
         all_below : (more F : List Record) (s : ℕ) → last_stamp (more ++ F) < s → Rising more → AllBelow more s
@@ -103,7 +112,8 @@ module _ (K : Shape) (minting : Minted) (P : Compact → Type 0) (shards : 0 < K
         go [] e = e
         go (r ∷ more) e = absurd (
             let place : X n ≡ [] ++ r ∷ (more ++ first_of K minting n) = (kept.begins n).1 ∙ ap (λ L. L ++ first_of K minting n) e in
-            let lt : n < K.coordinators + K.shards = at_a_node K n (more ++ first_of K minting n) r (kept.each n [] (more ++ first_of K minting n) r place (more, refl)).0 in
+            let lt : n < K.coordinators + K.shards =
+            at_a_node K n (more ++ first_of K minting n) r (kept.each n [] (more ++ first_of K minting n) r place (more, refl)).0 in
             omega arith)
 
     rows : List Row
@@ -136,15 +146,20 @@ module _ (K : Shape) (minting : Minted) (P : Compact → Type 0) (shards : 0 < K
 
     rows_each : EachSteady K minting P rows
     rows_each n newer rest r e =
-        let place : X n ≡ newer ++ r ∷ (rest ++ first_of K minting n) = sym (rows_whole n) ∙ journal-append n rows (first_rows K minting) ∙ ap (λ L. L ++ first_of K minting n) e ∙ append_assoc newer (r ∷ rest) (first_of K minting n) in
+        let place : X n ≡ newer ++ r ∷ (rest ++ first_of K minting n) =
+        sym (rows_whole n) ∙ journal-append n rows (first_rows K minting) ∙ ap (λ L. L ++ first_of K minting n) e
+        ∙ append_assoc newer (r ∷ rest) (first_of K minting n) in
         let f = kept.each n newer (rest ++ first_of K minting n) r place (rest, refl) in
         let c : IsCaused K (replaced X n (rest ++ first_of K minting n)) n r
-        = now_caused K minting P shards X kept n (rest ++ first_of K minting n) r (newer ++ r ∷ [], place ∙ sym (append_assoc newer (r ∷ []) (rest ++ first_of K minting n))) (rest, refl) f.1.lists f.1.ends f.0 f.1.caused in
+        = now_caused K minting P shards X kept n (rest ++ first_of K minting n) r
+        (newer ++ r ∷ [], place ∙ sym (append_assoc newer (r ∷ []) (rest ++ first_of K minting n))) (rest, refl) f.1.lists f.1.ends f.0
+        f.1.caused in
         (f.0, subst (λ J. IsCaused K (replaced J n (rest ++ first_of K minting n)) n r) (λ i m. sym (rows_whole m) i) c, f.2, f.3)
 
     -- what a record in flight owes
     abbrev Flies : World → Type 0
-    Flies w = (n : ℕ) (r : Record) → (node_at w n).flight ≡ Some r → Next K n (X n) r × Seen K X n (X n) r × AllProper P r × IsInGrammar (header_of K minting.id n) r
+    Flies w = (n : ℕ) (r : Record) → (node_at w n).flight ≡ Some r
+        → Next K n (X n) r × Seen K X n (X n) r × AllProper P r × IsInGrammar (header_of K minting.id n) r
 
     steady_rows : Steady K minting P rows
     unfolding rows
@@ -163,7 +178,8 @@ module _ (K : Shape) (minting : Minted) (P : Compact → Type 0) (shards : 0 < K
       history = λ n. rows_whole n ∙ sym (is n);
       flights = λ n r f.
           let s = flies n r f in
-          let c : IsCaused K (replaced X n (X n)) n r = now_caused K minting P shards X kept n (X n) r (end_self (X n)) (kept.begins n) s.1.lists s.1.ends s.0 s.1.caused in
+          let c : IsCaused K (replaced X n (X n)) n r =
+          now_caused K minting P shards X kept n (X n) r (end_self (X n)) (kept.begins n) s.1.lists s.1.ends s.0 s.1.caused in
           let d : IsCaused K X n r = subst (λ J. IsCaused K J n r) (λ i m. itself X n (X n) refl m i) c in
           (subst (λ L. Next K n L r) (sym (is n)) s.0, subst (λ J. IsCaused K J n r) (λ i m. sym (is m) i) d, s.2, s.3);
     }
@@ -173,7 +189,8 @@ module _ (K : Shape) (minting : Minted) (P : Compact → Type 0) (shards : 0 < K
   proper_of pieces pass other h = tt
 
   -- THE lemma of a wave: kept journals, and what each lane made as it saw it, give kept journals
-  pub wave_keeps : (pieces : ℕ → List (List Compact)) → ((lane : ℕ) → AllPass P (pieces lane)) → (E X : ℕ → List Record) → SteadyLists K minting P E → Wave K minting pieces E X → SteadyLists K minting P X
+  pub wave_keeps : (pieces : ℕ → List (List Compact)) → ((lane : ℕ) → AllPass P (pieces lane)) → (E X : ℕ → List Record) → SteadyLists K minting P E
+      → Wave K minting pieces E X → SteadyLists K minting P X
   wave_keeps pieces pass E X kept wave = record {
     begins = λ n. end_trans (first_of K minting n) (E n) (X n) (kept.begins n) (wave.grows n);
     each = λ n newer rest r e h. elim (cut (wave.grows n).0 (E n) newer rest r (sym (wave.grows n).1 ∙ e)) [
@@ -191,17 +208,25 @@ module _ (K : Shape) (minting : Minted) (P : Compact → Type 0) (shards : 0 < K
       may_not : (lane : ℕ) (r : Record) → is_in_lane lane r ≡ true → may_come false lane r ≡ true → ⊥
       may_not lane r h k = grind (arith, h)
 
-      of_lane : (lane n : ℕ) (newer rest : List Record) (r : Record) → X n ≡ newer ++ r ∷ rest → IsEnd (E n) rest → is_in_lane lane r ≡ true → After (header_of K minting.id n) rest r
+      of_lane : (lane n : ℕ) (newer rest : List Record) (r : Record) → X n ≡ newer ++ r ∷ rest → IsEnd (E n) rest → is_in_lane lane r ≡ true
+          → After (header_of K minting.id n) rest r
           → Next K n rest r × Seen K X n rest r × AllProper P r × IsInGrammar (header_of K minting.id n) r
-      of_lane lane n newer rest r e h in_lane after = elim (cut ((wave.left lane).more n) (wave.exits lane n) newer rest r (sym ((wave.left lane).is n) ∙ e)) [
-        | inr f ↦ absurd (let z : true ≡ false = sym in_lane ∙ (wave.left lane).others n newer f.back r f.more_is in cc)
-        | inl f ↦ elim ((wave.made lane).each n f.0 rest r f.1 h) [
-          | inl o ↦ absurd (may_not lane r in_lane o)
-          | inr s ↦ (next_here n rest r h after, seen_grows K (wave.exits lane) X n rest r (left_end lane) s.1, proper_of (pieces lane) (pass lane) r s.2, after.0)
-        ]
-      ]
+      of_lane lane n newer rest r e h in_lane after =
+          elim (cut ((wave.left lane).more n) (wave.exits lane n) newer rest r (sym ((wave.left lane).is n) ∙ e)) [
+            | inr f ↦ absurd (let z : true ≡ false = sym in_lane ∙ (wave.left lane).others n newer f.back r f.more_is in cc)
+            | inl f ↦ elim ((wave.made lane).each n f.0 rest r f.1 h) [
+              | inl o ↦ absurd (may_not lane r in_lane o)
+              | inr s ↦ (
+                next_here n rest r h after,
+                seen_grows K (wave.exits lane) X n rest r (left_end lane) s.1,
+                proper_of (pieces lane) (pass lane) r s.2,
+                after.0,
+              )
+            ]
+          ]
 
-      fresh : (n : ℕ) (newer rest : List Record) (r : Record) → X n ≡ newer ++ r ∷ rest → IsEnd (E n) rest → Next K n rest r × Seen K X n rest r × AllProper P r × IsInGrammar (header_of K minting.id n) r
+      fresh : (n : ℕ) (newer rest : List Record) (r : Record) → X n ≡ newer ++ r ∷ rest → IsEnd (E n) rest
+          → Next K n rest r × Seen K X n rest r × AllProper P r × IsInGrammar (header_of K minting.id n) r
       fresh n newer rest r e h = elim (in_own_lane r) [
         | inl first ↦ absurd (next_not_first K n rest r (next_here n rest r h (wave.next n newer rest r e h)) first)
         | inr own ↦ of_lane (lane_in r) n newer rest r e h own (wave.next n newer rest r e h)

@@ -1,5 +1,6 @@
 -- One record is written in a world that is up, and writings in turn.
-use Rattle.std.proofs.Common.{◌≡◌, ℕ, suc, ◌+◌, ◌<◌, ◌≤◌, ◌/◌, true, false, ◌&&◌, ◌==◌, cond, List, [], ◌∷◌, ◌++◌, length, Some, None, is_some, refl, sym, ap, ◌∙◌, subst, arith}
+use Rattle.std.proofs.Common.{◌≡◌, ℕ, suc, ◌+◌, ◌<◌, ◌≤◌, ◌/◌, true, false, ◌&&◌, ◌==◌, cond, List, [], ◌∷◌, ◌++◌, length, Some, None, is_some, refl}
+use Rattle.std.proofs.Common.{sym, ap, ◌∙◌, subst, arith}
 use Rattle.cbdc_model.specs.Records.{Shape, Batch, Compact, Record, record_of, txs_of, kind_of, is_of, last_stamp, Prepare}
 use Rattle.cbdc_model.specs.Slots.{slot}
 use Rattle.cbdc_model.specs.Ranges.{shard_node, Concerned}
@@ -49,7 +50,8 @@ AllLocked K w = (c : Batch) → AllHave K (journals w) 2 c
 
 pub locks_stay : (K : Shape) (old new : World) → ((n : ℕ) → Grows (journals old n) (journals new n)) → AllLocked K old → AllLocked K new
 locks_stay K old new g l c s concerned = grown_locks (journals old (shard_node K s)) (journals new (shard_node K s)) c (g (shard_node K s))
-    (l c s (subst (λ ts. Concerned K ts s) (grown_txs (journals old (c.lane / K.lanes)) (journals new (c.lane / K.lanes)) c (g (c.lane / K.lanes))) concerned))
+    (l c s (subst (λ ts. Concerned K ts s) (grown_txs (journals old (c.lane / K.lanes)) (journals new (c.lane / K.lanes)) c (g (c.lane / K.lanes)))
+    concerned))
 
 module _ (K : Shape) (minting : Minted) (P : Compact → Type 0) (shards : 0 < K.shards) where
   -- a kept world whose nodes are all up with nothing in flight, and whose stamps are at most this
@@ -76,9 +78,19 @@ module _ (K : Shape) (minting : Minted) (P : Compact → Type 0) (shards : 0 < K
     pub what : Q new
 
   pub stay : (top lane : ℕ) (w : World) (Q : World → Type 0) → Open top w → Q w → Goes top lane w Q
-  stay top lane w Q o q = record { new = w; events = []; run = refl; none = tt; is_open = o; others = λ n other apart. refl; locks = λ l. l; what = q }
+  stay top lane w Q o q = record {
+    new = w;
+    events = [];
+    run = refl;
+    none = tt;
+    is_open = o;
+    others = λ n other apart. refl;
+    locks = λ l. l;
+    what = q;
+  }
 
-  pub go_on : (middle top lane : ℕ) (w : World) (Q R : World → Type 0) → Goes middle lane w Q → ((v : World) → Open middle v → Q v → Goes top lane v R) → Goes top lane w R
+  pub go_on : (middle top lane : ℕ) (w : World) (Q R : World → Type 0) → Goes middle lane w Q
+      → ((v : World) → Open middle v → Q v → Goes top lane v R) → Goes top lane w R
   go_on middle top lane w Q R g f =
       let h = f g.new g.is_open g.what in
       record {
@@ -92,13 +104,20 @@ module _ (K : Shape) (minting : Minted) (P : Compact → Type 0) (shards : 0 < K
         what = h.what;
       }
 
-  pub weaken : (low high lane : ℕ) (w : World) (Q R : World → Type 0) → low ≤ high → Goes low lane w Q → ((v : World) → Q v → R v) → Goes high lane w R
+  pub weaken : (low high lane : ℕ) (w : World) (Q R : World → Type 0) → low ≤ high → Goes low lane w Q → ((v : World) → Q v → R v)
+      → Goes high lane w R
   weaken low high lane w Q R le g f = record {
     new = g.new;
     events = g.events;
     run = g.run;
     none = g.none;
-    is_open = record { kept = g.is_open.kept; size = g.is_open.size; up = g.is_open.up; quiet = g.is_open.quiet; low = λ n. omega (arith, g.is_open.low n) };
+    is_open = record {
+      kept = g.is_open.kept;
+      size = g.is_open.size;
+      up = g.is_open.up;
+      quiet = g.is_open.quiet;
+      low = λ n. omega (arith, g.is_open.low n);
+    };
     others = g.others;
     locks = g.locks;
     what = f g.new g.what;
@@ -120,18 +139,21 @@ module _ (K : Shape) (minting : Minted) (P : Compact → Type 0) (shards : 0 < K
     run = run_of;
     none = (q.begun, (tt, tt));
     is_open = record {
-      kept = run_keeps K minting P shards w (ended K minting P shards w n q.r lt) (Begin n q.r ∷ End n ∷ []) o.kept (passes_of P q.r q.passes, (tt, tt)) run_of;
+      kept = run_keeps K minting P shards w (ended K minting P shards w n q.r lt) (Begin n q.r ∷ End n ∷ []) o.kept
+          (passes_of P q.r q.passes, (tt, tt)) run_of;
       size = ended_length K minting P shards w n q.r lt ∙ o.size;
       up = λ m l. elim (at_node n m) [
         | at e ↦ subst (λ k. (node_at (ended K minting P shards w n q.r lt) k).up ≡ true) e (ap (λ v. v.up) (ended_at K minting P shards w n q.r lt))
         | away e ↦ ap (λ v. v.up) (ended_away K minting P shards w n q.r lt m e) ∙ o.up m (shorter m l)
       ];
       quiet = λ m l. elim (at_node n m) [
-        | at e ↦ subst (λ k. (node_at (ended K minting P shards w n q.r lt) k).flight ≡ None) e (ap (λ v. v.flight) (ended_at K minting P shards w n q.r lt))
+        | at e ↦ subst (λ k. (node_at (ended K minting P shards w n q.r lt) k).flight ≡ None) e
+            (ap (λ v. v.flight) (ended_at K minting P shards w n q.r lt))
         | away e ↦ ap (λ v. v.flight) (ended_away K minting P shards w n q.r lt m e) ∙ o.quiet m (shorter m l)
       ];
       low = λ m. elim (at_node n m) [
-        | at e ↦ subst (λ k. last_stamp (journals (ended K minting P shards w n q.r lt) k) ≤ suc top) e (subst (λ J. last_stamp J ≤ suc top) (sym own) q.stamp)
+        | at e ↦ subst (λ k. last_stamp (journals (ended K minting P shards w n q.r lt) k) ≤ suc top) e
+            (subst (λ J. last_stamp J ≤ suc top) (sym own) q.stamp)
         | away e ↦ subst (λ J. last_stamp J ≤ suc top) (sym (rest m e)) (let l = o.low m in omega arith)
       ];
     };
@@ -148,7 +170,8 @@ module _ (K : Shape) (minting : Minted) (P : Compact → Type 0) (shards : 0 < K
   }
     where
       run_of : Run K minting w (Begin n q.r ∷ End n ∷ []) (ended K minting P shards w n q.r lt)
-      run_of = written K minting P shards w n q.r lt (lt, o.up n lt, o.quiet n lt) (after_of K minting.id n (journals w n) q.r q.next q.grammar) q.caused
+      run_of = written K minting P shards w n q.r lt (lt, o.up n lt, o.quiet n lt) (after_of K minting.id n (journals w n) q.r q.next q.grammar)
+          q.caused
 
       own : journals (ended K minting P shards w n q.r lt) n ≡ q.r ∷ journals w n
       own = ap (λ v. v.journal) (ended_at K minting P shards w n q.r lt)

@@ -1,5 +1,6 @@
 -- Lane after lane: what stays kept, and which open batches are at their end.
-use Rattle.std.proofs.Common.{◌≡◌, ◌≢◌, ◌⊎◌, inl, inr, true, false, ◌==◌, ℕ, suc, ◌+◌, ◌*◌, ◌<◌, List, ◌++◌, refl, sym, ◌∙◌, subst, add-one, arith, Option, Some, None}
+use Rattle.std.proofs.Common.{◌≡◌, ◌≢◌, ◌⊎◌, inl, inr, true, false, ◌==◌, ℕ, suc, ◌+◌, ◌*◌, ◌<◌, List, ◌++◌, refl, sym, ◌∙◌, subst, add-one, arith}
+use Rattle.std.proofs.Common.{Option, Some, None}
 use Rattle.std.proofs.lemmas.Bool.{false≢true}
 use Rattle.std.proofs.lemmas.Bool.Decides.{eqb_tells}
 use Rattle.ledger_laws.proofs.Cuts.{end_self, end_trans}
@@ -33,10 +34,12 @@ pub resumes_on : ResumingStepLaw → ResumingSkipLaw → (K : Shape) (lane : ℕ
 resumes_on step skip K lane E J L (Some r) so took = subst (λ l. ResumedSo K l E L) (sym (add-one lane)) (step K lane r.batch E J L so took.0)
 resumes_on step skip K lane E J L None so (idle, same) =
     let all : J ≡ L = λ i n. sym (same n) i in
-    let on : ResumedSo K (suc lane) E J = skip K lane (suc lane) E J so (omega arith) (λ l low high. subst (λ m. lane_phase K J m ≡ Idle) (omega arith) idle) in
+    let on : ResumedSo K (suc lane) E J = skip K lane (suc lane) E J so (omega arith)
+    (λ l low high. subst (λ m. lane_phase K J m ≡ Idle) (omega arith) idle) in
     subst (λ X. ResumedSo K (lane + 1) E X) all (subst (λ l. ResumedSo K l E J) (sym (add-one lane)) on)
 
-pub stays_next : (K H : Shape) (I J L : ℕ → List Record) → H ≡ K → OfKept K I (StaysKept K I J) → OfKept H J (StaysKept H J L) → OfKept K I (StaysKept K I L)
+pub stays_next : (K H : Shape) (I J L : ℕ → List Record) → H ≡ K → OfKept K I (StaysKept K I J) → OfKept H J (StaysKept H J L)
+    → OfKept K I (StaysKept K I L)
 stays_next K H I J L e one two = stays_on K I J L one (subst (λ k. OfKept k J (StaysKept k J L)) e two)
 
 -- what holds where it is whole holds of it
@@ -46,7 +49,8 @@ of_ok (Err e) X ok so = absurd (false≢true ok)
 
 -- the lanes that were taken up are idle
 pub idle_next : (K H : Shape) (lane : ℕ) (J L : ℕ → List Record) → H ≡ K → lane < K.coordinators * K.lanes
-    → ((l : ℕ) → l < lane → lane_phase K J l ≡ Idle) → KeepsLanes H lane J L → lane_phase H L lane ≡ Idle → (l : ℕ) → l < lane + 1 → lane_phase K L l ≡ Idle
+    → ((l : ℕ) → l < lane → lane_phase K J l ≡ Idle) → KeepsLanes H lane J L → lane_phase H L lane ≡ Idle → (l : ℕ) → l < lane + 1
+    → lane_phase K L l ≡ Idle
 idle_next K H lane J L e below before others now l low = go (lt_or_eq l lane low)
   where
     go : (l < lane) ⊎ (l ≡ lane) → lane_phase K L l ≡ Idle
@@ -69,7 +73,8 @@ module _ {L : Type 0} {shape : L → Shape} {opened faults capacity : L → ℕ 
   pub ledger_same : (l : L) → KeepsLedger shape opened faults capacity holds l l
   ledger_same l = record { shape_same = refl; opened_same = λ n. refl; later = λ n. omega arith; capacity_same = λ n. refl; held = λ h. h }
 
-  pub ledger_on : {k l m : L} → KeepsLedger shape opened faults capacity holds k l → KeepsLedger shape opened faults capacity holds l m → KeepsLedger shape opened faults capacity holds k m
+  pub ledger_on : {k l m : L} → KeepsLedger shape opened faults capacity holds k l → KeepsLedger shape opened faults capacity holds l m
+      → KeepsLedger shape opened faults capacity holds k m
   ledger_on {k} {l} {m} a b = record {
     shape_same = b.shape_same ∙ a.shape_same;
     opened_same = λ n. b.opened_same n ∙ a.opened_same n;

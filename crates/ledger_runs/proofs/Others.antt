@@ -12,7 +12,8 @@ not_of lane other r apart h = lanes_apart other lane r h (grind (arith, apart))
 
 own_stays : (lane other : ℕ) → other ≢ lane → (more old : List Record) → AreOfLane other more → own lane (more ++ old) ≡ own lane old
 own_stays lane other apart [] old all = refl
-own_stays lane other apart (r ∷ more) old all = own_out lane r (more ++ old) (not_of lane other r apart all.0) ∙ own_stays lane other apart more old all.1
+own_stays lane other apart (r ∷ more) old all = own_out lane r (more ++ old) (not_of lane other r apart all.0)
+    ∙ own_stays lane other apart more old all.1
 
 module _ (lane other : ℕ) (apart : other ≢ lane) (J X : ℕ → List Record) (grown : GrowBy other J X) where
   pub own_same : (n : ℕ) → own lane (X n) ≡ own lane (J n)
@@ -23,4 +24,5 @@ module _ (lane other : ℕ) (apart : other ≢ lane) (J X : ℕ → List Record)
 
   pub record_same : (kind n : ℕ) (b : Batch) → b.lane ≡ lane → record_of kind (X n) b ≡ record_of kind (J n) b
   record_same kind n b is =
-      record_own kind b (X n) ∙ ap (λ L. record_of kind L b) (subst (λ l. own l (X n) ≡ own l (J n)) (sym is) (own_same n)) ∙ sym (record_own kind b (J n))
+      record_own kind b (X n) ∙ ap (λ L. record_of kind L b) (subst (λ l. own l (X n) ≡ own l (J n)) (sym is) (own_same n))
+      ∙ sym (record_own kind b (J n))

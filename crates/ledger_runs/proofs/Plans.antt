@@ -1,5 +1,6 @@
 -- What was found of lanes, and their plans, taken from the end as the lanes are taken up.
-use Rattle.std.proofs.Common.{◌≡◌, ℕ, suc, ◌+◌, ◌<◌, ◌≤◌, List, [], ◌∷◌, ◌++◌, length, get_or, take, drop, reverse, Option, None, inl, inr, arith, sym, ap, ◌∙◌, subst, add-one, drop-cons}
+use Rattle.std.proofs.Common.{◌≡◌, ℕ, suc, ◌+◌, ◌<◌, ◌≤◌, List, [], ◌∷◌, ◌++◌, length, get_or, take, drop, reverse, Option, None, inl, inr, arith}
+use Rattle.std.proofs.Common.{sym, ap, ◌∙◌, subst, add-one, drop-cons}
 use Rattle.std.specs.List.{AllZip}
 use Rattle.std.proofs.lemmas.Bool.{cases_lt}
 use Rattle.std.proofs.lemmas.List.{reverse-append, take_more, get_or_default, get_or_append_left, get_or_push}
@@ -15,7 +16,8 @@ module _ {A B : Type 0} (Fits : A → B → Type 0) (os : List A) (i : ℕ) (o :
   split_rest : drop i os ≡ o ∷ drop (i + 1) os
   split_rest = rw add-one (drop-cons os i o lt ∙ ap (λ x. x ∷ drop (suc i) os) (sym is))
 
-  last_two : (bs less : List B) (b : B) → bs ≡ less ++ b ∷ [] → AllZip Fits (drop i os) (reverse bs) → AllZip Fits (o ∷ drop (i + 1) os) (b ∷ reverse less)
+  last_two : (bs less : List B) (b : B) → bs ≡ less ++ b ∷ [] → AllZip Fits (drop i os) (reverse bs)
+      → AllZip Fits (o ∷ drop (i + 1) os) (b ∷ reverse less)
   last_two bs less b e each =
       subst (λ xs. AllZip Fits xs (b ∷ reverse less)) split_rest
       (subst (λ rs. AllZip Fits (drop i os) rs) (ap reverse e ∙ reverse-append less (b ∷ [])) each)
@@ -51,7 +53,8 @@ module _ {A B : Type 0} (Fits : A → B → Type 0) (os : List A) (i : ℕ) (d :
 -- ---- what was found
 
 -- it is still so of the later lanes behind the turn of another
-pub found_on : (K H : Shape) (turn : ℕ) (I J : ℕ → List Record) (opens now : ℕ → Option OpenLane) → H ≡ K → KeepsLanes H turn I J → KeepsOpens H turn opens now → (k : ℕ) → turn + 1 ≤ k → IsLaneOf K k
+pub found_on : (K H : Shape) (turn : ℕ) (I J : ℕ → List Record) (opens now : ℕ → Option OpenLane) → H ≡ K → KeepsLanes H turn I J
+    → KeepsOpens H turn opens now → (k : ℕ) → turn + 1 ≤ k → IsLaneOf K k
     → (found : Option OpenLane) → IsFound K I opens k found → IsFound K J now k found
 found_on K H turn I J opens now same lanes keeps k above inside found was = record {
   told = was.told ∙ sym (subst (λ h. KeepsOpens h turn opens now) same keeps k inside (λ e. omega (arith, e, above)));
@@ -66,11 +69,13 @@ pub within_room : (n i count room : ℕ) → n ≤ i → i < count → room ≡ 
 within_room n i count room few low same = omega arith
 
 -- what is said of each lane is said of it, too
-pub found_more : (P : ℕ → Option OpenLane → Type 0) (old new : List (Option OpenLane)) (i : ℕ) (x : Option OpenLane) → length old ≡ i → new ≡ old ++ x ∷ []
+pub found_more : (P : ℕ → Option OpenLane → Type 0) (old new : List (Option OpenLane)) (i : ℕ) (x : Option OpenLane) → length old ≡ i
+    → new ≡ old ++ x ∷ []
     → ((k : ℕ) → k < i → P k (get_or old k None)) → P i x → (k : ℕ) → k < i + 1 → P k (get_or new k None)
 found_more P old new i x long is before here k low = elim (cases_lt k i) [
   | inl earlier ↦
-      let same : get_or new k None ≡ get_or old k None = ap (λ xs. get_or xs k None) is ∙ get_or_append_left old (x ∷ []) None k (subst (λ n. k < n) (sym long) earlier) in
+      let same : get_or new k None ≡ get_or old k None =
+      ap (λ xs. get_or xs k None) is ∙ get_or_append_left old (x ∷ []) None k (subst (λ n. k < n) (sym long) earlier) in
       subst (P k) (sym same) (before k earlier)
   | inr later ↦
       let at : i ≡ k = omega arith in

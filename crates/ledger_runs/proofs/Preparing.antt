@@ -1,5 +1,6 @@
 -- What lanes have prepared, and how lists are cut into pieces.
-use Rattle.std.proofs.Common.{◌≡◌, ◌≢◌, ◌⊎◌, inl, inr, true, false, ◌==◌, ℕ, zero, suc, ◌<◌, ◌≤◌, List, [], ◌∷◌, length, take, drop, refl, sym, ap, ◌∙◌, subst, arith, length-take, length-drop}
+use Rattle.std.proofs.Common.{◌≡◌, ◌≢◌, ◌⊎◌, inl, inr, true, false, ◌==◌, ℕ, zero, suc, ◌<◌, ◌≤◌, List, [], ◌∷◌, length, take, drop, refl, sym, ap}
+use Rattle.std.proofs.Common.{◌∙◌, subst, arith, length-take, length-drop}
 use Rattle.std.proofs.lemmas.Bool.Decides.{eqb_tells}
 use Rattle.cbdc_model.specs.Records.{Shape, Compact, Record}
 use Rattle.cbdc_model.specs.Ranges.{home_of}
@@ -19,11 +20,13 @@ same_prepared lane other apart J X grown n =
     prepared_own lane (X n) ∙ ap batches.prepares_txs (own_same lane other apart J X grown n) ∙ sym (prepared_own lane (J n))
 
 -- a lane that resumed has prepared nothing, and no other lane has
-pub resumed_none : (K H : Shape) (lane : ℕ) (E J L : ℕ → List Record) → H ≡ K → SamePrepared K E J → GrowBy lane J L → HasPreparedPieces H lane [] J L → SamePrepared K E L
+pub resumed_none : (K H : Shape) (lane : ℕ) (E J L : ℕ → List Record) → H ≡ K → SamePrepared K E J → GrowBy lane J L
+    → HasPreparedPieces H lane [] J L → SamePrepared K E L
 resumed_none K H lane E J L same before grown none l = go (eqb_tells l lane) ∙ before l
   where
     go : (((l == lane) ≡ true) × (l ≡ lane)) ⊎ (((l == lane) ≡ false) × (l ≢ lane)) → prepared l (L (home_of K l)) ≡ prepared l (J (home_of K l))
-    go (inl (b, is)) = subst (λ m. prepared m (L (home_of K m)) ≡ prepared m (J (home_of K m))) (sym is) (subst (λ k. prepared lane (L (home_of k lane)) ≡ prepared lane (J (home_of k lane))) same none)
+    go (inl (b, is)) = subst (λ m. prepared m (L (home_of K m)) ≡ prepared m (J (home_of K m))) (sym is)
+        (subst (λ k. prepared lane (L (home_of k lane)) ≡ prepared lane (J (home_of k lane))) same none)
     go (inr (b, other)) = same_prepared l lane (λ h. other (sym h)) J L grown (home_of K l)
 
 -- ---- cuts
@@ -46,4 +49,5 @@ cut_of n xs some = cut_within n (length xs) xs some (omega arith)
 -- ---- the lanes of a wave
 
 pub none_begun : (K : Shape) (E : ℕ → List Record) (lanes : List LaneOf) → 0 < K.batch → HaveBegun K E E lanes
-none_begun K E lanes some lane x there = let pieces : (ps : List (List Compact)) × IsCut K.batch x.txs ps = cut_of K.batch x.txs some in ([], pieces.0, pieces.1, refl)
+none_begun K E lanes some lane x there = let pieces : (ps : List (List Compact))
+    × IsCut K.batch x.txs ps = cut_of K.batch x.txs some in ([], pieces.0, pieces.1, refl)

@@ -1,5 +1,6 @@
 -- Batches of a lane among new records: how many transactions they have, and that what was decided of older ones stays.
-use Rattle.std.proofs.Common.{◌≡◌, ℕ, zero, suc, ◌+◌, ◌-◌, ◌<◌, ◌≤◌, Bool, true, false, ◌==◌, nat_lt, if◌then◌else◌, drop, length-take, length-drop, List, [], ◌∷◌, ◌++◌, map, reverse, length, Option, Some, None, refl, sym, ap, ◌∙◌, arith, append_assoc}
+use Rattle.std.proofs.Common.{◌≡◌, ℕ, zero, suc, ◌+◌, ◌-◌, ◌<◌, ◌≤◌, Bool, true, false, ◌==◌, nat_lt, if◌then◌else◌, drop, length-take, length-drop}
+use Rattle.std.proofs.Common.{List, [], ◌∷◌, ◌++◌, map, reverse, length, Option, Some, None, refl, sym, ap, ◌∙◌, arith, append_assoc}
 use Rattle.std.specs.Prelude.{slice_get, option_map}
 use Rattle.std.proofs.lemmas.List.{reverse-append, length-append}
 use Rattle.std.proofs.lemmas.Bool.{le-ltb, ltb-true, ltb-false}
@@ -18,7 +19,8 @@ sized_append lane (r ∷ a) b os = sized_append lane a b (sized_before lane r os
 
 before_behind : (lane : ℕ) (r : Record) (os others : List Sized) → sized_before lane r (os ++ others) ≡ sized_before lane r os ++ others
 before_behind lane (Prepare stamp c txs) os others = elim (c.lane == lane)
-    as (λ l. (if l then record { batch = c; size = length txs } ∷ (os ++ others) else os ++ others) ≡ (if l then record { batch = c; size = length txs } ∷ os else os) ++ others) [
+    as (λ l. (if l then record { batch = c; size = length txs } ∷ (os ++ others) else os ++ others)
+    ≡ (if l then record { batch = c; size = length txs } ∷ os else os) ++ others) [
       | true ↦ refl
       | false ↦ refl
     ]
@@ -41,15 +43,19 @@ AllOf b (r ∷ rs) = (is_of b r ≡ true) × AllOf b rs
 abbrev its_size : Batch → List Compact → Sized
 its_size b txs = record { batch = b; size = length txs }
 
-turned : (f : List Compact → Sized) (txs : List Compact) (P : List (List Compact)) (os : List Sized) → reverse (map f P) ++ (f txs ∷ os) ≡ reverse (map f (txs ∷ P)) ++ os
+turned : (f : List Compact → Sized) (txs : List Compact) (P : List (List Compact)) (os : List Sized)
+    → reverse (map f P) ++ (f txs ∷ os) ≡ reverse (map f (txs ∷ P)) ++ os
 turned f txs P os = sym (ap (λ l. l ++ os) (reverse-append (f txs ∷ []) (map f P)) ∙ append_assoc (reverse (map f P)) (f txs ∷ []) os)
 
-pub sized_of : (lane : ℕ) (b : Batch) (d : List Record) (os : List Sized) → AllOf b d → sized_onto lane d os ≡ reverse (map (its_size b) (prepared lane d)) ++ os
+pub sized_of : (lane : ℕ) (b : Batch) (d : List Record) (os : List Sized) → AllOf b d
+    → sized_onto lane d os ≡ reverse (map (its_size b) (prepared lane d)) ++ os
 sized_of lane b [] os all = refl
 sized_of lane b (Prepare stamp c txs ∷ d) os all = elim (c.lane == lane)
-    as (λ l. sized_onto lane d (if l then record { batch = c; size = length txs } ∷ os else os) ≡ reverse (map (its_size b) (if l then txs ∷ prepared lane d else prepared lane d)) ++ os) [
+    as (λ l. sized_onto lane d (if l then record { batch = c; size = length txs } ∷ os else os)
+    ≡ reverse (map (its_size b) (if l then txs ∷ prepared lane d else prepared lane d)) ++ os) [
       | true ↦
-          ap (λ x. sized_onto lane d (its_size x txs ∷ os)) (same_batch_is c b all.0) ∙ sized_of lane b d (its_size b txs ∷ os) all.1 ∙ turned (its_size b) txs (prepared lane d) os
+          ap (λ x. sized_onto lane d (its_size x txs ∷ os)) (same_batch_is c b all.0) ∙ sized_of lane b d (its_size b txs ∷ os) all.1
+          ∙ turned (its_size b) txs (prepared lane d) os
       | false ↦ sized_of lane b d os all.1
     ]
 sized_of lane b (other ∷ d) os all = sized_of lane b d os all.1
@@ -79,9 +85,11 @@ joint_turned (x ∷ xs) =
     let t = joint_more (reverse xs) (x ∷ []) in
     ap joint (reverse-append (x ∷ []) xs) ∙ omega (arith, r, t)
 
-before_total : (lane : ℕ) (r : Record) (J : List Record) (os : List Sized) → total (sized_before lane r os) + joint (prepared lane J) ≡ total os + joint (prepared lane (r ∷ J))
+before_total : (lane : ℕ) (r : Record) (J : List Record) (os : List Sized)
+    → total (sized_before lane r os) + joint (prepared lane J) ≡ total os + joint (prepared lane (r ∷ J))
 before_total lane (Prepare stamp c txs) J os = elim (c.lane == lane)
-    as (λ l. total (if l then record { batch = c; size = length txs } ∷ os else os) + joint (prepared lane J) ≡ total os + joint (if l then txs ∷ prepared lane J else prepared lane J)) [
+    as (λ l. total (if l then record { batch = c; size = length txs } ∷ os else os) + joint (prepared lane J)
+    ≡ total os + joint (if l then txs ∷ prepared lane J else prepared lane J)) [
       | true ↦ omega arith
       | false ↦ refl
     ]
@@ -94,9 +102,11 @@ sized_total lane (r ∷ d) os = let h = sized_total lane d (sized_before lane r 
 pub total_is : (lane : ℕ) (d : List Record) → total (sized_onto lane d []) ≡ joint (prepared lane d)
 total_is lane d = let h = sized_total lane d [] in omega (arith, h)
 
-before_count : (lane : ℕ) (r : Record) (J : List Record) (os : List Sized) → length (sized_before lane r os) + length (prepared lane J) ≡ length os + length (prepared lane (r ∷ J))
+before_count : (lane : ℕ) (r : Record) (J : List Record) (os : List Sized)
+    → length (sized_before lane r os) + length (prepared lane J) ≡ length os + length (prepared lane (r ∷ J))
 before_count lane (Prepare stamp c txs) J os = elim (c.lane == lane)
-    as (λ l. length (if l then record { batch = c; size = length txs } ∷ os else os) + length (prepared lane J) ≡ length os + length (if l then txs ∷ prepared lane J else prepared lane J)) [
+    as (λ l. length (if l then record { batch = c; size = length txs } ∷ os else os) + length (prepared lane J)
+    ≡ length os + length (if l then txs ∷ prepared lane J else prepared lane J)) [
       | true ↦ omega arith
       | false ↦ refl
     ]
@@ -142,11 +152,14 @@ abbrev pub EachSized : (Sized → Type 0) → List Sized → Type 0
 EachSized Q [] = Unit {0}
 EachSized Q (s ∷ S) = Q s × EachSized Q S
 
-pub decided_as : (J L : List Record) (S : List Sized) → EachSized (λ s. outcomes_of L s.batch ≡ outcomes_of J s.batch) S → decided_of L S ≡ decided_of J S
+pub decided_as : (J L : List Record) (S : List Sized) → EachSized (λ s. outcomes_of L s.batch ≡ outcomes_of J s.batch) S
+    → decided_of L S ≡ decided_of J S
 decided_as J L [] same = refl
-decided_as J L (s ∷ S) same = ap (λ os. decided_in s.batch os ++ decided_of L S) same.0 ∙ ap (λ l. decided_in s.batch (outcomes_of J s.batch) ++ l) (decided_as J L S same.1)
+decided_as J L (s ∷ S) same = ap (λ os. decided_in s.batch os ++ decided_of L S) same.0
+    ∙ ap (λ l. decided_in s.batch (outcomes_of J s.batch) ++ l) (decided_as J L S same.1)
 
-pub are_decided_as : (J L : List Record) (S : List Sized) → EachSized (λ s. outcomes_of L s.batch ≡ outcomes_of J s.batch) S → AreDecided J S → AreDecided L S
+pub are_decided_as : (J L : List Record) (S : List Sized) → EachSized (λ s. outcomes_of L s.batch ≡ outcomes_of J s.batch) S → AreDecided J S
+    → AreDecided L S
 are_decided_as J L [] same all = tt
 are_decided_as J L (s ∷ S) same all = (all.0, ap length same.0 ∙ all.1, are_decided_as J L S same.1 all.2)
 
@@ -157,7 +170,8 @@ are_decided_both J (s ∷ A) B a b = (a.0, a.1, are_decided_both J A B a.2 b)
 pub decided_both : (J : List Record) (A B : List Sized) → decided_of J (A ++ B) ≡ decided_of J A ++ decided_of J B
 decided_both J [] B = refl
 decided_both J (s ∷ A) B =
-    ap (λ l. decided_in s.batch (outcomes_of J s.batch) ++ l) (decided_both J A B) ∙ sym (append_assoc (decided_in s.batch (outcomes_of J s.batch)) (decided_of J A) (decided_of J B))
+    ap (λ l. decided_in s.batch (outcomes_of J s.batch) ++ l) (decided_both J A B)
+    ∙ sym (append_assoc (decided_in s.batch (outcomes_of J s.batch)) (decided_of J A) (decided_of J B))
 
 -- ---- where a transaction stands
 
@@ -192,21 +206,27 @@ decided_there J (s ∷ S) q all = go (λ n. decided_there J S n all.2) (nat_lt q
     long : length own ≡ s.size
     long = decided_length s.batch (outcomes_of J s.batch) ∙ all.1
 
-    go : ((n : ℕ) → slice_get (decided_of J S) n ≡ decided_at_place J (place_of S n)) → (l : Bool) → nat_lt q s.size ≡ l → slice_get (own ++ decided_of J S) q ≡ decided_at_place J (if l then Some (record { batch = s.batch; at = q }) else place_of S (q - s.size))
-    go rest true e = get_first own (decided_of J S) q (let h = ltb-true q s.size e in omega (arith, h, long)) ∙ at_place s.batch (outcomes_of J s.batch) q
-    go rest false e = get_behind own (decided_of J S) q (let h = ltb-false q s.size e in omega (arith, h, long)) ∙ ap (λ n. slice_get (decided_of J S) (q - n)) long ∙ rest (q - s.size)
+    go : ((n : ℕ) → slice_get (decided_of J S) n ≡ decided_at_place J (place_of S n)) → (l : Bool) → nat_lt q s.size ≡ l
+        → slice_get (own ++ decided_of J S) q ≡ decided_at_place J (if l then Some (record { batch = s.batch; at = q }) else place_of S (q - s.size))
+    go rest true e = get_first own (decided_of J S) q (let h = ltb-true q s.size e in omega (arith, h, long))
+        ∙ at_place s.batch (outcomes_of J s.batch) q
+    go rest false e = get_behind own (decided_of J S) q (let h = ltb-false q s.size e in omega (arith, h, long))
+        ∙ ap (λ n. slice_get (decided_of J S) (q - n)) long ∙ rest (q - s.size)
 
 -- places behind other batches, and among the first
 pub place_behind : (A B : List Sized) (q : ℕ) → place_of (A ++ B) (total A + q) ≡ place_of B q
 place_behind [] B q = ap (place_of B) (omega arith)
 place_behind (a ∷ A) B q =
-    ap (λ l. if l then Some (record { batch = a.batch; at = total (a ∷ A) + q }) else place_of (A ++ B) ((total (a ∷ A) + q) - a.size)) (le-ltb (total (a ∷ A) + q) a.size (omega arith))
+    ap (λ l. if l then Some (record { batch = a.batch; at = total (a ∷ A) + q }) else place_of (A ++ B) ((total (a ∷ A) + q) - a.size))
+    (le-ltb (total (a ∷ A) + q) a.size (omega arith))
     ∙ ap (place_of (A ++ B)) (omega arith) ∙ place_behind A B q
 
 pub place_first : (A B : List Sized) (q : ℕ) → q < total A → place_of (A ++ B) q ≡ place_of A q
 place_first [] B q lt = absurd (omega (arith, lt))
 place_first (a ∷ A) B q lt = go (λ n. place_first A B n) (nat_lt q a.size) refl
   where
-    go : ((n : ℕ) → n < total A → place_of (A ++ B) n ≡ place_of A n) → (l : Bool) → nat_lt q a.size ≡ l → (if l then Some (record { batch = a.batch; at = q }) else place_of (A ++ B) (q - a.size)) ≡ (if l then Some (record { batch = a.batch; at = q }) else place_of A (q - a.size))
+    go : ((n : ℕ) → n < total A → place_of (A ++ B) n ≡ place_of A n) → (l : Bool) → nat_lt q a.size ≡ l
+        → (if l then Some (record { batch = a.batch; at = q }) else place_of (A ++ B) (q - a.size))
+        ≡ (if l then Some (record { batch = a.batch; at = q }) else place_of A (q - a.size))
     go rest true e = refl
     go rest false e = rest (q - a.size) (let h = ltb-false q a.size e in omega (arith, h, lt))

@@ -7,6 +7,7 @@ use Rattle.ledger_runs.specs.Lanes.{LaneOf}
 pub at_place : (lanes : List LaneOf) (at : ℕ) → at < length lanes → (x : LaneOf) × (slice_get lanes at ≡ Some x)
 at_place lanes at inside = go (slice_get_cases lanes at).1
   where
-    go : ((x : LaneOf) × (at < length lanes) × (slice_get lanes at ≡ Some x) × (get_or lanes at x ≡ x)) ⊎ ((length lanes ≤ at) × (slice_get lanes at ≡ None)) → (x : LaneOf) × (slice_get lanes at ≡ Some x)
+    go : ((x : LaneOf) × (at < length lanes) × (slice_get lanes at ≡ Some x) × (get_or lanes at x ≡ x))
+        ⊎ ((length lanes ≤ at) × (slice_get lanes at ≡ None)) → (x : LaneOf) × (slice_get lanes at ≡ Some x)
     go (inl (x, low, is, e)) = (x, is)
     go (inr (past, e)) = absurd (omega (arith, past, inside))

@@ -13,7 +13,8 @@ use Rattle.lane_laws.specs.Faults.{HaveBelow}
 use Rattle.run_laws.specs.Faults.{IsAsked}
 use Rattle.lane_driver.specs.declared.fault.LaneFault.{LaneFault}
 use Rattle.lane_driver.specs.declared.fault.LaneFaultKind.{LaneFaultKind}
-use Rattle.lane_driver.specs.declared.fault.LaneFaultKind.TheVariants.{DiskFault as DiskStopped, Full as NoRoom, ClockEnd as NoStamp, Memory as NoMemory}
+use Rattle.lane_driver.specs.declared.fault.LaneFaultKind.TheVariants.{DiskFault as DiskStopped, Full as NoRoom, ClockEnd as NoStamp}
+use Rattle.lane_driver.specs.declared.fault.LaneFaultKind.TheVariants.{Memory as NoMemory}
 use Rattle.ledger_runs.specs.Turning.{lane_phase, IsLaneOf}
 use Rattle.ledger_runs.specs.Waving.{EachLane}
 use Rattle.ledger_runs.specs.Pieces.{HasPreparedPieces, IsNextPiece}
@@ -40,15 +41,20 @@ TakesInOrder K E X = (lanes : ℕ) × (lanes ≤ K.coordinators * K.lanes) × To
 -- the record that the lane still wants at a node by journals X, as it would stand there behind `front`: where the lane is idle, its next Prepare,
 -- of transactions that are next; where its batch is prepared, the Lock of a concerned shard that has not come to this batch, each lesser one having
 -- its Lock
-pub data IsWanted (K : Shape) (lane : ℕ) (next : List Compact → Type 0) (X : ℕ → List Record) (node : ℕ) (front : List Record) (r : Record) : Type 0 where
-  wants_prepare : (txs : List Compact) → next txs → node ≡ home_of K lane → lane_phase K X lane ≡ Idle → r ≡ prepare_record front lane txs → IsWanted K lane next X node front r
-  wants_lock : (b : Batch) (t : ℕ) (txs : List Compact) (s : ℕ) → b.lane ≡ lane → node ≡ shard_node K s → is_concerned K txs s ≡ true → lane_phase K X lane ≡ InPrepare
-      → record_of prepare_kind (X (home_of K lane)) b ≡ Some (Prepare t b txs) → HaveBelow K txs (λ k. X (shard_node K k)) lock_kind b s → (slot (X node) lane).number < b.number
-      → r ≡ lock_record front (record { batch = b; part = part K.shards s 0 txs; cause = t }) → IsWanted K lane next X node front r
+pub data IsWanted (K : Shape) (lane : ℕ) (next : List Compact → Type 0) (X : ℕ → List Record) (node : ℕ) (front : List Record) (r : Record) : Type 0
+  where
+    wants_prepare : (txs : List Compact) → next txs → node ≡ home_of K lane → lane_phase K X lane ≡ Idle → r ≡ prepare_record front lane txs
+        → IsWanted K lane next X node front r
+    wants_lock : (b : Batch) (t : ℕ) (txs : List Compact) (s : ℕ) → b.lane ≡ lane → node ≡ shard_node K s → is_concerned K txs s ≡ true
+        → lane_phase K X lane ≡ InPrepare
+        → record_of prepare_kind (X (home_of K lane)) b ≡ Some (Prepare t b txs) → HaveBelow K txs (λ k. X (shard_node K k)) lock_kind b s
+        → (slot (X node) lane).number < b.number
+        → r ≡ lock_record front (record { batch = b; part = part K.shards s 0 txs; cause = t }) → IsWanted K lane next X node front r
 
 -- behind a front of the node's journal, which the journal at entry begins and behind which nothing of the lane came, its disk has no room for what the
 -- wanted record needs there, whose stamp is not past the last one
-pub record HasNoRoomFor (K : Shape) (lane : ℕ) (next : List Compact → Type 0) (E X : ℕ → List Record) (may_hold : ℕ → ℕ → Type 0) (node used need capacity : ℕ) : Type 0 where
+pub record HasNoRoomFor (K : Shape) (lane : ℕ) (next : List Compact → Type 0) (E X : ℕ → List Record) (may_hold : ℕ → ℕ → Type 0)
+    (node used need capacity : ℕ) : Type 0 where
   pub front : List Record
   pub since : IsEnd (E node) front
   pub within : IsEnd front (X node)
@@ -97,25 +103,30 @@ IsBeforeLocks K lane X = (lane_phase K X lane ≡ Idle) ⊎ LacksLock K lane X
 -- the cause of a lane's fault of this node and kind, from journals E to X, by the nodes whose disks have failed and what disks may hold. A node that
 -- the lane asks has a disk that failed, or no room or no stamp for what the lane wants; or memory runs out between batches, or before a batch has its
 -- Locks
-abbrev pub IsCauseOf : Shape → ℕ → (List Compact → Type 0) → (ℕ → List Record) → (ℕ → List Record) → (ℕ → Type 0) → (ℕ → ℕ → Type 0) → ℕ → LaneFaultKind → Type 0
+abbrev pub IsCauseOf : Shape → ℕ → (List Compact → Type 0) → (ℕ → List Record) → (ℕ → List Record) → (ℕ → Type 0) → (ℕ → ℕ → Type 0) → ℕ
+    → LaneFaultKind → Type 0
 IsCauseOf K lane next E X failed may_hold node DiskStopped = HasNoDiskFor K lane next X failed node
 IsCauseOf K lane next E X failed may_hold node (NoRoom used need capacity) = HasNoRoomFor K lane next E X may_hold node used need capacity
 IsCauseOf K lane next E X failed may_hold node (NoStamp stamp) = HasNoStampFor K lane next E X node stamp
 IsCauseOf K lane next E X failed may_hold node NoMemory = IsBeforeLocks K lane X
 
 -- the cause of a lane's fault, by its node and its kind (`IsCauseOf`)
-abbrev pub IsLaneCause : Shape → ℕ → (List Compact → Type 0) → (ℕ → List Record) → (ℕ → List Record) → (ℕ → Type 0) → (ℕ → ℕ → Type 0) → LaneFault → Type 0
+abbrev pub IsLaneCause : Shape → ℕ → (List Compact → Type 0) → (ℕ → List Record) → (ℕ → List Record) → (ℕ → Type 0) → (ℕ → ℕ → Type 0) → LaneFault
+    → Type 0
 IsLaneCause K lane next E X failed may_hold e = IsCauseOf K lane next E X failed may_hold e.node e.fault
 
 -- the same of some lane, each with the transactions that are next for it; that memory ran out is free
-abbrev pub IsSomeCauseOf : Shape → (ℕ → List Compact → Type 0) → (ℕ → List Record) → (ℕ → List Record) → (ℕ → Type 0) → (ℕ → ℕ → Type 0) → ℕ → LaneFaultKind → Type 0
+abbrev pub IsSomeCauseOf : Shape → (ℕ → List Compact → Type 0) → (ℕ → List Record) → (ℕ → List Record) → (ℕ → Type 0) → (ℕ → ℕ → Type 0) → ℕ
+    → LaneFaultKind → Type 0
 IsSomeCauseOf K next E X failed may_hold node DiskStopped = (lane : ℕ) × IsLaneOf K lane × HasNoDiskFor K lane (next lane) X failed node
-IsSomeCauseOf K next E X failed may_hold node (NoRoom used need capacity) = (lane : ℕ) × IsLaneOf K lane × HasNoRoomFor K lane (next lane) E X may_hold node used need capacity
+IsSomeCauseOf K next E X failed may_hold node (NoRoom used need capacity) = (lane : ℕ) × IsLaneOf K lane
+    × HasNoRoomFor K lane (next lane) E X may_hold node used need capacity
 IsSomeCauseOf K next E X failed may_hold node (NoStamp stamp) = (lane : ℕ) × IsLaneOf K lane × HasNoStampFor K lane (next lane) E X node stamp
 IsSomeCauseOf K next E X failed may_hold node NoMemory = Unit {0}
 
 -- the cause of a fault of some lane, by its node and its kind (`IsSomeCauseOf`)
-abbrev pub IsRunCause : Shape → (ℕ → List Compact → Type 0) → (ℕ → List Record) → (ℕ → List Record) → (ℕ → Type 0) → (ℕ → ℕ → Type 0) → LaneFault → Type 0
+abbrev pub IsRunCause : Shape → (ℕ → List Compact → Type 0) → (ℕ → List Record) → (ℕ → List Record) → (ℕ → Type 0) → (ℕ → ℕ → Type 0) → LaneFault
+    → Type 0
 IsRunCause K next E X failed may_hold e = IsSomeCauseOf K next E X failed may_hold e.node e.fault
 
 -- the node's count of faults has risen since it was opened
@@ -160,4 +171,5 @@ AllRestOrWait K E X failed wanting = (lane : ℕ) → IsLaneOf K lane → RestsO
 
 -- each lane that has stopped has its cause
 abbrev pub HaveCauses : Shape → (ℕ → List Record) → (ℕ → List Record) → (ℕ → Type 0) → (ℕ → ℕ → Type 0) → List LaneOf → Type 0
-HaveCauses K E X failed may_hold lanes = EachLane (λ lane x. (e : LaneFault) → x.fault ≡ Some e → IsLaneCause K lane (IsNextPiece K lane x.txs E X) E X failed may_hold e) lanes
+HaveCauses K E X failed may_hold lanes = EachLane
+    (λ lane x. (e : LaneFault) → x.fault ≡ Some e → IsLaneCause K lane (IsNextPiece K lane x.txs E X) E X failed may_hold e) lanes

@@ -17,7 +17,8 @@ abbrev pub FliesOn : Shape → (ℕ → List Record) → (ℕ → List Record) �
 FliesOn K I J before after mint submissions = AllMayCome K mint submissions I before → AllMayCome K mint submissions J after
 
 -- where all that the lanes get are
-abbrev pub FliesSent : Shape → (ℕ → List Compact) → (ℕ → List Record) → (ℕ → List Record) → (ℕ → Option Record) → (ℕ → Option Record) → List Output → List FullTx → Type 0
+abbrev pub FliesSent : Shape → (ℕ → List Compact) → (ℕ → List Record) → (ℕ → List Record) → (ℕ → Option Record) → (ℕ → Option Record) → List Output
+    → List FullTx → Type 0
 FliesSent K sent I J before after mint submissions = AllProper K sent submissions → FliesOn K I J before after mint submissions
 
 -- ---- Prepares in flight

@@ -19,7 +19,8 @@ abbrev pub RunTheirs : Shape → (ℕ → List Record) → (ℕ → List Record)
 RunTheirs K I J lanes = EachLane (λ lane x. x.fault ≡ None → LaneHasRun K lane x.txs I J) lanes
 
 -- the fault is a lane's, has its cause, and each lesser lane has run all that it got
-pub record IsLeastFault (K : Shape) (sent : ℕ → List Compact) (next : ℕ → List Compact → Type 0) (I J : ℕ → List Record) (failed : ℕ → Type 0) (may_hold : ℕ → ℕ → Type 0) (e : LaneFault) : Type 0 where
+pub record IsLeastFault (K : Shape) (sent : ℕ → List Compact) (next : ℕ → List Compact → Type 0) (I J : ℕ → List Record) (failed : ℕ → Type 0)
+    (may_hold : ℕ → ℕ → Type 0) (e : LaneFault) : Type 0 where
   pub lane : ℕ
   pub is_lane : IsLaneOf K lane
   pub cause : IsLaneCause K lane (next lane) I J failed may_hold e
@@ -31,7 +32,8 @@ IsUnbegunForMemory I J e = (e.fault ≡ NoMemory) × ((n : ℕ) → J n ≡ I n)
 
 -- of lanes that were open: the fault is a lane's, has its cause, and all lesser lanes are idle
 abbrev pub IsFirstOpenFault : Shape → (ℕ → List Record) → (ℕ → List Record) → (ℕ → Type 0) → (ℕ → ℕ → Type 0) → LaneFault → Type 0
-IsFirstOpenFault K I J failed may_hold e = (lane : ℕ) × IsLaneOf K lane × IsOpenCause K lane I J failed may_hold e × ((other : ℕ) → other < lane → lane_phase K J other ≡ Idle)
+IsFirstOpenFault K I J failed may_hold e = (lane : ℕ) × IsLaneOf K lane × IsOpenCause K lane I J failed may_hold e
+    × ((other : ℕ) → other < lane → lane_phase K J other ≡ Idle)
 
 -- that, or `IsUnbegunForMemory`
 abbrev pub IsLeastOpen : Shape → (ℕ → List Record) → (ℕ → List Record) → (ℕ → Type 0) → (ℕ → ℕ → Type 0) → LaneFault → Type 0

@@ -16,7 +16,8 @@ HasPreparedAll K lane all I J = (pieces : List (List Compact)) × IsCut K.batch 
 
 -- the next of these pieces: the lane has prepared those before it
 abbrev pub IsNextOf : Shape → ℕ → List (List Compact) → (ℕ → List Record) → (ℕ → List Record) → List Compact → Type 0
-IsNextOf K lane pieces I J txs = (done : List (List Compact)) × (more : List (List Compact)) × (pieces ≡ done ++ txs ∷ more) × HasPreparedPieces K lane done I J
+IsNextOf K lane pieces I J txs = (done : List (List Compact)) × (more : List (List Compact)) × (pieces ≡ done ++ txs ∷ more)
+    × HasPreparedPieces K lane done I J
 
 -- the next piece of what the lane gets
 abbrev pub IsNextPiece : Shape → ℕ → List Compact → (ℕ → List Record) → (ℕ → List Record) → List Compact → Type 0
@@ -30,7 +31,8 @@ HavePreparedAll K I J lanes = EachLane (λ lane x. HasPreparedAll K lane x.txs I
 
 -- the first of the pieces of what the lane gets, in order, and nothing else
 abbrev pub HasBegun : Shape → ℕ → List Compact → (ℕ → List Record) → (ℕ → List Record) → Type 0
-HasBegun K lane all I J = (done : List (List Compact)) × (more : List (List Compact)) × IsCut K.batch all (done ++ more) × HasPreparedPieces K lane done I J
+HasBegun K lane all I J = (done : List (List Compact)) × (more : List (List Compact)) × IsCut K.batch all (done ++ more)
+    × HasPreparedPieces K lane done I J
 
 -- each lane has begun with what it gets
 abbrev pub HaveBegun : Shape → (ℕ → List Record) → (ℕ → List Record) → List LaneOf → Type 0

@@ -35,11 +35,13 @@ IsResumedAt K lane E X (Some r) = TellsResumed K lane E X r
 -- one of each lane below n that was open, in rising order
 abbrev pub TellResumed : Shape → (ℕ → List Record) → (ℕ → List Record) → ℕ → List ResumedBatch → Type 0
 TellResumed K E X zero rs = rs ≡ []
-TellResumed K E X (suc lane) rs = (before : List ResumedBatch) × (found : Option ResumedBatch) × TellResumed K E X lane before × IsResumedAt K lane E X found × (rs ≡ before ++ none_or_one found)
+TellResumed K E X (suc lane) rs = (before : List ResumedBatch) × (found : Option ResumedBatch) × TellResumed K E X lane before
+    × IsResumedAt K lane E X found × (rs ≡ before ++ none_or_one found)
 
 -- the result of a lane's open batch is kept behind the result of others
 abbrev pub TakesUp : Shape → ℕ → (ℕ → List Record) → (ℕ → List Record) → List ResumedBatch → List ResumedBatch → Type 0
-TakesUp K lane I J before after = (found : Option ResumedBatch) × TookUp K lane I J found × IsLanesOpenBatch K lane I found × (after ≡ before ++ none_or_one found)
+TakesUp K lane I J before after = (found : Option ResumedBatch) × TookUp K lane I J found × IsLanesOpenBatch K lane I found
+    × (after ≡ before ++ none_or_one found)
 
 -- no lane has a new Prepare
 abbrev pub SamePrepared : Shape → (ℕ → List Record) → (ℕ → List Record) → Type 0

@@ -35,11 +35,13 @@ TurnPreparesNone t lane old new = HasPreparedPieces (t.shape old) lane [] (t.jou
 
 -- where the journals were kept, the lane's open batch was brought to its end, and its result is kept behind the others'
 abbrev pub TookUpIn : {L : Type 0} → Ghosts L → ℕ → L → L → List ResumedBatch → List ResumedBatch → Type 0
-TookUpIn t lane old new before after = OfKept (t.shape old) (t.journals old) (λ _ _. TookUpOne (t.shape old) lane (t.journals old) (t.journals new) before after)
+TookUpIn t lane old new before after = OfKept (t.shape old) (t.journals old)
+    (λ _ _. TookUpOne (t.shape old) lane (t.journals old) (t.journals new) before after)
 
 -- where the journals were kept, the lane's open batch was brought to its end, and its result, which names that batch, is kept behind the others'
 abbrev pub TakesUpNamedIn : {L : Type 0} → Ghosts L → ℕ → L → L → List ResumedBatch → List ResumedBatch → Type 0
-TakesUpNamedIn t lane old new before after = OfKept (t.shape old) (t.journals old) (λ _ _. TakesUp (t.shape old) lane (t.journals old) (t.journals new) before after)
+TakesUpNamedIn t lane old new before after = OfKept (t.shape old) (t.journals old)
+    (λ _ _. TakesUp (t.shape old) lane (t.journals old) (t.journals new) before after)
 
 -- the fault of a lane whose open batch was taken up has its cause
 abbrev pub IsTurnCaused : {L : Type 0} → Ghosts L → ℕ → L → L → LaneFault → Type 0
@@ -49,7 +51,8 @@ IsTurnCaused t lane old new e =
 -- so has the fault of some lane
 abbrev pub AreTurnsCaused : {L : Type 0} → Ghosts L → L → L → LaneFault → Type 0
 AreTurnsCaused t old new e =
-    IsRunCause (t.shape old) (λ _. Nothing) (t.journals old) (t.journals new) (HaveFailed (t.opened new) (t.faults new)) (MayHoldBytes (t.capacity new)) e
+    IsRunCause (t.shape old) (λ _. Nothing) (t.journals old) (t.journals new) (HaveFailed (t.opened new) (t.faults new))
+    (MayHoldBytes (t.capacity new)) e
 
 -- it is that of the least lane that met one
 abbrev pub IsTurnsLeast : {L : Type 0} → Ghosts L → L → L → LaneFault → Type 0
@@ -67,4 +70,5 @@ TurnsResume t old new = OfKept (t.shape old) (t.journals old) (λ _ _. IsResumed
 -- and these are they, in order
 abbrev pub TurnsTell : {L : Type 0} → Ghosts L → L → L → List ResumedBatch → Type 0
 TurnsTell t old new rs =
-    OfKept (t.shape old) (t.journals old) (λ _ _. TellResumed (t.shape old) (t.journals old) (t.journals new) ((t.shape old).coordinators * (t.shape old).lanes) rs)
+    OfKept (t.shape old) (t.journals old) (λ _ _. TellResumed (t.shape old) (t.journals old) (t.journals new)
+    ((t.shape old).coordinators * (t.shape old).lanes) rs)

@@ -28,7 +28,8 @@ NoFault lanes = EachLane (λ lane x. x.fault ≡ None) lanes
 abbrev pub FirstFaultIs : List LaneOf → Option LaneFault → Type 0
 FirstFaultIs lanes None = NoFault lanes
 FirstFaultIs lanes (Some fault) =
-    (lane : ℕ) × (x : LaneOf) × (slice_get lanes lane ≡ Some x) × (x.fault ≡ Some fault) × ((k : ℕ) (y : LaneOf) → k < lane → slice_get lanes k ≡ Some y → y.fault ≡ None)
+    (lane : ℕ) × (x : LaneOf) × (slice_get lanes lane ≡ Some x) × (x.fault ≡ Some fault)
+    × ((k : ℕ) (y : LaneOf) → k < lane → slice_get lanes k ≡ Some y → y.fault ≡ None)
 
 -- all that the lanes get are compact forms of proper submissions
 abbrev pub AllProper : Shape → (ℕ → List Compact) → List FullTx → Type 0
@@ -40,4 +41,5 @@ KeepsSent K sent I J mint submissions = AllProper K sent submissions → StaysKe
 
 -- of a wave of which no lane stopped, where the journals are kept and all that the lanes get is proper
 abbrev pub OfSent : Shape → (ℕ → List Record) → List LaneOf → List LaneOf → Type 0 → Type 0
-OfSent K I before now P = (sent : ℕ → List Compact) → HaveSent sent before → NoFault now → OfKept K I (λ _ submissions. AllProper K sent submissions → P)
+OfSent K I before now P = (sent : ℕ → List Compact) → HaveSent sent before → NoFault now
+    → OfKept K I (λ _ submissions. AllProper K sent submissions → P)

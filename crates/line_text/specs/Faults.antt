@@ -2,7 +2,8 @@
 use Rattle.std.specs.Prelude.{ℕ, List, [], ◌∷◌, codes, decimal}
 use Rattle.hex.specs.Hex.{encode_lower}
 use Rattle.cbdc_types.specs.declared.answer.Answer.{Answer}
-use Rattle.cbdc_types.specs.declared.answer.Answer.TheVariants.{Ok, BadWords, BadInput, TooMuch, NotReady, Foreign, NotEmpty, Full, Unsound, ClockEnd, Damaged, ReadFault, WriteFault, DiskFault, Memory}
+use Rattle.cbdc_types.specs.declared.answer.Answer.TheVariants.{Ok, BadWords, BadInput, TooMuch, NotReady, Foreign, NotEmpty, Full, Unsound, ClockEnd}
+use Rattle.cbdc_types.specs.declared.answer.Answer.TheVariants.{Damaged, ReadFault, WriteFault, DiskFault, Memory}
 use Rattle.base_types.specs.declared.faults.InputKind.{InputKind}
 use Rattle.base_types.specs.declared.faults.InputKind.TheVariants as input
 use Rattle.cbdc_types.specs.declared.answer.UnsoundKind.{UnsoundKind}

@@ -1,5 +1,6 @@
 -- What a shard owes whose journal is its Genesis alone.
-use Rattle.std.proofs.Common.{◌≡◌, ℕ, ◌≤◌, nat_lt, true, false, ◌||◌, ◌&&◌, ◌==◌, Bool, Option, List, [], ◌∷◌, length, reverse, Err, Some, None, refl, sym, ap, ◌∙◌, subst, arith}
+use Rattle.std.proofs.Common.{◌≡◌, ℕ, ◌≤◌, nat_lt, true, false, ◌||◌, ◌&&◌, ◌==◌, Bool, Option, List, [], ◌∷◌, length, reverse, Err, Some, None, refl}
+use Rattle.std.proofs.Common.{sym, ap, ◌∙◌, subst, arith}
 use Rattle.std.specs.Prelude.{if◌then◌else◌, slice_get}
 use Rattle.cbdc_types.specs.declared.calls.NodeFault.{NodeFault}
 use Rattle.cbdc_types.specs.declared.calls.NodeFault.TheVariants.{Memory, Refused as Refuses}
@@ -29,11 +30,13 @@ unlike : (n : ℕ) → 1 ≤ n → (n == 0) ≡ false
 unlike n le = grind (arith, le)
 
 -- a call that writes nothing, and is answered at once or because memory ran out
-module _ {A : Type 0} (lane : ℕ) (memory : Bool) (due : Header → ℕ → Option ℕ → List Record → Due A) (good : Header → List Record → A → Type 0) (h : Header) (hs : List Digest) (fault : NodeFault) where
+module _ {A : Type 0} (lane : ℕ) (memory : Bool) (due : Header → ℕ → Option ℕ → List Record → Due A) (good : Header → List Record → A → Type 0)
+    (h : Header) (hs : List Digest) (fault : NodeFault) where
   abbrev s : Sight
   s = record { header = h; seen = Genesis h hs ∷ []; flight = None; faults = 0; opened = 0; capacity = 0 }
 
-  pub gives : IsJournal h (Genesis h hs ∷ []) → Meets memory (due h 0 None (Genesis h hs ∷ [])) s s (Genesis h hs ∷ []) (Err fault) → NodeGives lane memory due good s s (Err fault)
+  pub gives : IsJournal h (Genesis h hs ∷ []) → Meets memory (due h 0 None (Genesis h hs ∷ [])) s s (Genesis h hs ∷ []) (Err fault)
+      → NodeGives lane memory due good s s (Err fault)
   gives journal meets = record {
     told = record {
       found = Genesis h hs ∷ [];
@@ -52,15 +55,20 @@ module _ {A : Type 0} (lane : ℕ) (memory : Bool) (due : Header → ℕ → Opt
   }
 
 -- no batch is locked
-pub finish_refused : (h : Header) (hs : List Digest) (c : FinishCall) → 1 ≤ c.batch.number → next_finish (Genesis h hs ∷ []) c.batch c.decisions c.cause ≡ Refuse (NotLocked 0)
+pub finish_refused : (h : Header) (hs : List Digest) (c : FinishCall) → 1 ≤ c.batch.number
+    → next_finish (Genesis h hs ∷ []) c.batch c.decisions c.cause ≡ Refuse (NotLocked 0)
 finish_refused h hs c le =
-    ap (λ b. if b || ((c.batch.number == 0) && true) then Refuse (Stale 0) else if nat_lt 0 c.batch.number then Refuse (NotLocked 0) else finish_in Idle (Genesis h hs ∷ []) c.batch c.decisions c.cause) (not_less c.batch.number)
-    ∙ (ap (λ b. if b && true then Refuse (Stale 0) else if nat_lt 0 c.batch.number then Refuse (NotLocked 0) else finish_in Idle (Genesis h hs ∷ []) c.batch c.decisions c.cause) (unlike c.batch.number le)
+    ap (λ b. if b || ((c.batch.number == 0) && true) then Refuse (Stale 0) else if nat_lt 0 c.batch.number then Refuse (NotLocked 0)
+    else finish_in Idle (Genesis h hs ∷ []) c.batch c.decisions c.cause) (not_less c.batch.number)
+    ∙ (ap (λ b. if b && true then Refuse (Stale 0) else if nat_lt 0 c.batch.number then Refuse (NotLocked 0)
+    else finish_in Idle (Genesis h hs ∷ []) c.batch c.decisions c.cause) (unlike c.batch.number le)
     ∙ ap (λ b. if b then Refuse (NotLocked 0) else finish_in Idle (Genesis h hs ∷ []) c.batch c.decisions c.cause) (above c.batch.number le))
 
-pub forget_refused : (h : Header) (hs : List Digest) (c : ForgetCall) → 1 ≤ c.batch.number → next_forget (Genesis h hs ∷ []) c.batch c.cause ≡ Refuse (NotLocked 0)
+pub forget_refused : (h : Header) (hs : List Digest) (c : ForgetCall) → 1 ≤ c.batch.number
+    → next_forget (Genesis h hs ∷ []) c.batch c.cause ≡ Refuse (NotLocked 0)
 forget_refused h hs c le =
-    ap (λ b. if b then Refuse (Stale 0) else if nat_lt 0 c.batch.number then Refuse (NotLocked 0) else forget_in Idle (Genesis h hs ∷ []) c.batch c.cause) (not_less c.batch.number)
+    ap (λ b. if b then Refuse (Stale 0) else if nat_lt 0 c.batch.number then Refuse (NotLocked 0)
+    else forget_in Idle (Genesis h hs ∷ []) c.batch c.cause) (not_less c.batch.number)
     ∙ ap (λ b. if b then Refuse (NotLocked 0) else forget_in Idle (Genesis h hs ∷ []) c.batch c.cause) (above c.batch.number le)
 
 module _ (core : ShardCore) (rs : List Record) (k : IsFrozen core rs) (t : Sight) (is : t ≡ seen_of core.header rs) where
@@ -77,15 +85,18 @@ module _ (core : ShardCore) (rs : List Record) (k : IsFrozen core rs) (t : Sight
   stays = record { node = record { header = refl; opened = refl; capacity = refl; later = omega arith }; seen = refl; flight = refl }
 
   pub lock_gives : (c : LockCall) → NodeGives c.batch.lane true (lock_owed c) good_reply t t (Err Memory)
-  lock_gives c = subst (λ s. NodeGives c.batch.lane true (lock_owed c) good_reply s s (Err Memory)) (sym seen_first) (gives c.batch.lane true (lock_owed c) good_reply core.header k.hashes Memory k.journal (refl, stays))
+  lock_gives c = subst (λ s. NodeGives c.batch.lane true (lock_owed c) good_reply s s (Err Memory)) (sym seen_first)
+      (gives c.batch.lane true (lock_owed c) good_reply core.header k.hashes Memory k.journal (refl, stays))
 
   pub finish_gives : (c : FinishCall) → 1 ≤ c.batch.number → NodeGives c.batch.lane false (finish_owed c) good_stamp t t (Err (Refuses (NotLocked 0)))
   finish_gives c le = subst (λ s. NodeGives c.batch.lane false (finish_owed c) good_stamp s s (Err (Refuses (NotLocked 0)))) (sym seen_first)
-      (gives c.batch.lane false (finish_owed c) good_stamp core.header k.hashes (Refuses (NotLocked 0)) k.journal (ap (λ p. stamp_by p (Finish (next_stamp J c.cause) c.batch c.decisions)) (finish_refused core.header k.hashes c le), stays))
+      (gives c.batch.lane false (finish_owed c) good_stamp core.header k.hashes (Refuses (NotLocked 0)) k.journal
+      (ap (λ p. stamp_by p (Finish (next_stamp J c.cause) c.batch c.decisions)) (finish_refused core.header k.hashes c le), stays))
 
   pub forget_gives : (c : ForgetCall) → 1 ≤ c.batch.number → NodeGives c.batch.lane false (forget_owed c) good_stamp t t (Err (Refuses (NotLocked 0)))
   forget_gives c le = subst (λ s. NodeGives c.batch.lane false (forget_owed c) good_stamp s s (Err (Refuses (NotLocked 0)))) (sym seen_first)
-      (gives c.batch.lane false (forget_owed c) good_stamp core.header k.hashes (Refuses (NotLocked 0)) k.journal (ap (λ p. stamp_by p (Forget (next_stamp J c.cause) c.batch)) (forget_refused core.header k.hashes c le), stays))
+      (gives c.batch.lane false (forget_owed c) good_stamp core.header k.hashes (Refuses (NotLocked 0)) k.journal
+      (ap (λ p. stamp_by p (Forget (next_stamp J c.cause) c.batch)) (forget_refused core.header k.hashes c le), stays))
 
 only_one : (all : List Record) (r : Record) → length all ≡ 1 → slice_get all 0 ≡ Some r → all ≡ r ∷ []
 only_one [] r one e = absurd (let z : 0 ≡ 1 = one in omega (arith, z))
@@ -93,7 +104,8 @@ only_one (x ∷ []) r one e = let same : x ≡ r = let z : Some x ≡ Some r = e
 only_one (x ∷ (y ∷ all)) r one e = absurd (omega (arith, one))
 
 -- a shard of one record, which is a Genesis
-pub frozen_of : (core : ShardCore) (h header : Header) (hs : List Digest) (all rs past : List Record) → reverse all ≡ past → IsJournal h past → length all ≡ 1 → slice_get all 0 ≡ Some (Genesis header hs)
+pub frozen_of : (core : ShardCore) (h header : Header) (hs : List Digest) (all rs past : List Record) → reverse all ≡ past → IsJournal h past
+    → length all ≡ 1 → slice_get all 0 ≡ Some (Genesis header hs)
     → core.header ≡ header → ShardStands core (Genesis header hs ∷ []) → rs ≡ Genesis header hs ∷ [] → IsFrozen core rs × (core.header ≡ h)
 frozen_of core h header hs all rs past is journal one at own stands copy =
     let begun : IsJournal h (Genesis header hs ∷ []) = subst (IsJournal h) (sym is ∙ ap reverse (only_one all (Genesis header hs) one at)) journal in

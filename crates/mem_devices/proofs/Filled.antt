@@ -1,5 +1,6 @@
 -- Places that were filled one after another.
-use Rattle.std.proofs.Common.{◌≡◌, inl, inr, ◌<◌, ◌≤◌, ◌+◌, ◌++◌, ℕ, zero, suc, List, [], ◌∷◌, length, Option, Some, None, refl, sym, ap, ◌∙◌, subst, arith}
+use Rattle.std.proofs.Common.{◌≡◌, inl, inr, ◌<◌, ◌≤◌, ◌+◌, ◌++◌, ℕ, zero, suc, List, [], ◌∷◌, length, Option, Some, None, refl, sym, ap, ◌∙◌, subst}
+use Rattle.std.proofs.Common.{arith}
 use Rattle.std.specs.Prelude.{slice_get}
 use Rattle.std.proofs.lemmas.Bool.{cases_lt}
 use Rattle.std.proofs.lemmas.List.{length-append}
@@ -43,7 +44,8 @@ module _ {D : Type 0} (P : ℕ → D → Type 0) where
     | inr high ↦ subst HasNoDiskOut (sym (none_past places n high)) tt
   ]
 
-  pub filled_at : (places : List (Option D)) → AreFilled places → (n : ℕ) → n < length places → (d : D) × (disk_in (slice_get places n) ≡ Some d) × P n d
+  pub filled_at : (places : List (Option D)) → AreFilled places → (n : ℕ) → n < length places
+      → (d : D) × (disk_in (slice_get places n) ≡ Some d) × P n d
   filled_at places are n low = let at = are n low in (at.0, ap disk_in at.1, at.2)
 
 -- an empty disk, with so much room where it is a node's

@@ -1,5 +1,6 @@
 -- Mirrors in memory: they never fail, and tell what they hold.
-use Rattle.std.proofs.Common.{◌≡◌, inl, inr, ◌<◌, ◌≤◌, ◌+◌, ◌++◌, ℕ, zero, suc, Bool, true, false, List, [], ◌∷◌, length, map, Option, Some, None, IsSome, refl, sym, ap, ◌∙◌, subst, arith, true≢false}
+use Rattle.std.proofs.Common.{◌≡◌, inl, inr, ◌<◌, ◌≤◌, ◌+◌, ◌++◌, ℕ, zero, suc, Bool, true, false, List, [], ◌∷◌, length, map, Option, Some, None}
+use Rattle.std.proofs.Common.{IsSome, refl, sym, ap, ◌∙◌, subst, arith, true≢false}
 use Rattle.std.specs.Prelude.{slice_get}
 use Rattle.std.proofs.lemmas.Option.{same_Some}
 use Rattle.mem_devices.specs.declared.plain_disk.PlainDisk.{PlainDisk}
@@ -14,7 +15,8 @@ use Rattle.mirror_devices.proofs.Even.{all_even, all_tell, got, never_failed}
 pub none_empty : (capacity : ℕ) → AreEmpty capacity []
 none_empty capacity k d is = absurd (let z : None ≡ Some d = is in cc)
 
-pub one_empty : (capacity : ℕ) (disks : List PlainDisk) (d : PlainDisk) → AreEmpty capacity disks → (d.bytes.items ≡ []) × (d.capacity ≡ capacity) → AreEmpty capacity (disks ++ d ∷ [])
+pub one_empty : (capacity : ℕ) (disks : List PlainDisk) (d : PlainDisk) → AreEmpty capacity disks → (d.bytes.items ≡ []) × (d.capacity ≡ capacity)
+    → AreEmpty capacity (disks ++ d ∷ [])
 one_empty capacity [] d are has zero e is = subst (λ (x : PlainDisk). (x.bytes.items ≡ []) × (x.capacity ≡ capacity)) (same_Some d e is) has
 one_empty capacity [] d are has (suc k) e is = absurd (let z : None ≡ Some e = is in cc)
 one_empty capacity (x ∷ xs) d are has zero e is = are 0 e is
@@ -64,7 +66,9 @@ holds_within m c is =
 
 -- of empty disks it is empty, and has their room
 pub empty_content : (copies capacity : ℕ) (m : PlainMirror) → IsEmptyMirror copies capacity m → plain_mirror.content m ≡ Some []
-empty_content copies capacity m is = ap (λ b. told_of b (map plain.content m.disks.items)) is.whole ∙ empty_told capacity m.disks.items m.some is.empty
+empty_content copies capacity m is = ap (λ b. told_of b (map plain.content m.disks.items)) is.whole
+    ∙ empty_told capacity m.disks.items m.some is.empty
 
 pub empty_limit : (copies capacity : ℕ) (m : PlainMirror) → IsEmptyMirror copies capacity m → plain_mirror.limit m ≡ capacity
-empty_limit copies capacity m is = let first = got m.disks.items 0 m.some in first_is plain.limit m.disks.items first.0 first.1 ∙ (is.empty 0 first.0 first.1).1
+empty_limit copies capacity m is = let first = got m.disks.items 0 m.some in
+    first_is plain.limit m.disks.items first.0 first.1 ∙ (is.empty 0 first.0 first.1).1

@@ -20,12 +20,23 @@ module _ {D : Type 0} {G : Ghosts D} where
   pub pushed : (old new : RecordLog D G) (r : Record) → HasKept old new r → reverse new.records.items ≡ r ∷ reverse old.records.items
   pushed old new r kept = ap reverse kept.records ∙ reverse-append old.records.items (r ∷ [])
 
-  pub shown_appends : (old new : RecordLog D G) (opened since : ℕ) (flight landed : Option Record) (r : Record) → HasKept old new r → since ≡ opened → landed ≡ flight
+  pub shown_appends : (old new : RecordLog D G) (opened since : ℕ) (flight landed : Option Record) (r : Record) → HasKept old new r → since ≡ opened
+      → landed ≡ flight
       → Appends (sight (shown old opened flight)) (sight (shown new since landed)) (reverse old.records.items) r
   shown_appends old new opened since flight landed r kept when same =
-      record { node = record { header = kept.header; opened = when; capacity = kept.limit; later = kept.later }; seen = pushed old new r kept; flight = same }
+      record {
+        node = record { header = kept.header; opened = when; capacity = kept.limit; later = kept.later };
+        seen = pushed old new r kept;
+        flight = same;
+      }
 
-  pub shown_fails : (old new : RecordLog D G) (opened since : ℕ) (flight landed : Option Record) (r : Record) → HasBroken old new → since ≡ opened → landed ≡ Some r
+  pub shown_fails : (old new : RecordLog D G) (opened since : ℕ) (flight landed : Option Record) (r : Record) → HasBroken old new → since ≡ opened
+      → landed ≡ Some r
       → Fails (sight (shown old opened flight)) (sight (shown new since landed)) (reverse old.records.items) r
   shown_fails old new opened since flight landed r broken when same =
-      record { node = record { header = broken.header; opened = when; capacity = broken.limit; later = broken.later }; seen = ap reverse broken.records; flight = same; rose = broken.rose }
+      record {
+        node = record { header = broken.header; opened = when; capacity = broken.limit; later = broken.later };
+        seen = ap reverse broken.records;
+        flight = same;
+        rose = broken.rose;
+      }

@@ -41,4 +41,11 @@ pub sum_reversed : (xs : List Record) → sum_by size_of (reverse xs) ≡ sum_by
 sum_reversed [] = refl
 sum_reversed (x ∷ xs) =
     let turned : reverse (x ∷ xs) ≡ reverse xs ++ x ∷ [] = reverse-append (x ∷ []) xs in
-    omega (arith, ap (sum_by size_of) turned, sum_by-append size_of (reverse xs) (x ∷ []), sum_reversed xs, sum_by-cons size_of x xs, sum_by-cons size_of x [])
+    omega (
+      arith,
+      ap (sum_by size_of) turned,
+      sum_by-append size_of (reverse xs) (x ∷ []),
+      sum_reversed xs,
+      sum_by-cons size_of x xs,
+      sum_by-cons size_of x [],
+    )

@@ -36,7 +36,12 @@ room_few InDiscard m n k le re = omega arith
 
 pub lane_few : (h : Header) (J : List Record) (lane : ℕ) → IsWithinLimits h.shape → All (IsInGrammar h) J → lane_room J lane ≤ 65536
 lane_few h J lane limits all =
-    omega (arith, limits.batch, room_few (slot J lane).phase (length (lock_of J (open_batch J lane))) (length (txs_of J (open_batch J lane))) h.shape.batch (lock_few h J (open_batch J lane) all) (txs_few h J (open_batch J lane) all))
+    omega (
+      arith,
+      limits.batch,
+      room_few (slot J lane).phase (length (lock_of J (open_batch J lane))) (length (txs_of J (open_batch J lane))) h.shape.batch
+          (lock_few h J (open_batch J lane) all) (txs_few h J (open_batch J lane) all),
+    )
 
 kept_few : (h : Header) (J : List Record) (n : ℕ) → IsWithinLimits h.shape → All (IsInGrammar h) J → kept_below J n ≤ n * 65536
 kept_few h J zero limits all = omega arith

@@ -18,9 +18,10 @@ pub record KeepsNode {D A : Type 0} (device : Ghosts D) (old new : NodeOf D) (re
   pub leaves : HoldsJournal device old → LeavesBetween device old new
 
 -- a call at a node did what the node owed it, or where it takes memory, there was none; and it left of the node what each call leaves
-pub record HasAnswered {D A : Type 0} (device : Ghosts D) (memory : Bool) (due : Due A) (old new : NodeOf D) (result : Result A NodeFault) : Type 0 where
-  pub meets : Meets memory due (sight old) (sight new) old.journal result
-  pub keeps : KeepsNode device old new result
+pub record HasAnswered {D A : Type 0} (device : Ghosts D) (memory : Bool) (due : Due A) (old new : NodeOf D) (result : Result A NodeFault) : Type 0
+  where
+    pub meets : Meets memory due (sight old) (sight new) old.journal result
+    pub keeps : KeepsNode device old new result
 
 -- what is owed to the writing of one record
 abbrev pub one_write : Record → Due (Unit {0})

@@ -17,7 +17,8 @@ pub record IsJournalOf (Is : Header → Type 0) (h : Header) (J : List Record) (
   pub kind : Is h
 
 -- a core, which has a header and stands for journals, is that of this journal of a node of the kind
-pub record IsPlayed {C : Type 0} (header_of : C → Header) (StandsFor : C → List Record → Type 0) (Is : Header → Type 0) (h : Header) (core : C) (J : List Record) : Type 0 where
+pub record IsPlayed {C : Type 0} (header_of : C → Header) (StandsFor : C → List Record → Type 0) (Is : Header → Type 0) (h : Header) (core : C)
+    (J : List Record) : Type 0 where
   pub header : header_of core ≡ h
   pub stands : StandsFor core J
   pub journal : IsJournal h J

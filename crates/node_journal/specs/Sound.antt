@@ -35,7 +35,8 @@ pub record IsNode {C D : Type 0} {G : Ghosts D} (Is : Header → Type 0) (n : No
   pub fits : IfSome n.flight (λ r. used_of (journal_of n) + need_of n.log.header.shape (journal_of n) r ≤ G.limit (disk_of n.log.journal))
 
 -- it was just opened: its core stands for the journal, whose bytes, with those that are kept for its unfinished batches, lie within the capacity
-pub record IsOpened {C D : Type 0} {G : Ghosts D} (header_of : C → Header) (StandsFor : C → List Record → Type 0) (Is : Header → Type 0) (n : Node C D G) : Type 0 where
+pub record IsOpened {C D : Type 0} {G : Ghosts D} (header_of : C → Header) (StandsFor : C → List Record → Type 0) (Is : Header → Type 0)
+    (n : Node C D G) : Type 0 where
   pub node : IsNode Is n
   pub header : header_of n.core ≡ n.log.header
   pub stands : StandsFor n.core (journal_of n)

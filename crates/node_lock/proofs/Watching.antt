@@ -1,5 +1,6 @@
 -- A seat that has made nothing and left nothing in flight leaves nothing behind: without it the lock says the same.
-use Rattle.std.proofs.Common.{◌≡◌, ◌⊎◌, inl, inr, ℕ, ◌+◌, ◌<◌, Bool, true, false, List, [], ◌∷◌, ◌++◌, length, append_assoc, refl, sym, ap, ◌∙◌, subst, arith}
+use Rattle.std.proofs.Common.{◌≡◌, ◌⊎◌, inl, inr, ℕ, ◌+◌, ◌<◌, Bool, true, false, List, [], ◌∷◌, ◌++◌, length, append_assoc, refl, sym, ap, ◌∙◌}
+use Rattle.std.proofs.Common.{subst, arith}
 use Rattle.std.specs.Prelude.{Option, Some, None, if◌then◌else◌}
 use Rattle.cbdc_model.specs.Records.{Record, is_in_lane}
 use Rattle.cbdc_model.specs.Lanes.{IsEnd}
@@ -32,17 +33,20 @@ drawn_without lanes w (r ∷ log) none d =
     ((l, d.0.1, here), drawn_without lanes w log n.1 d.1)
 
 module _ (start log : List Record) (flight : Option Record) (faults : ℕ) where
-  all_but_last : (hs : List Hand) (h : Hand) → AllHands start log flight faults (hs ++ h ∷ []) → AllHands start log flight faults hs × HandOk start log flight faults h
+  all_but_last : (hs : List Hand) (h : Hand) → AllHands start log flight faults (hs ++ h ∷ [])
+      → AllHands start log flight faults hs × HandOk start log flight faults h
   all_but_last [] h k = (tt, k.0)
   all_but_last (g ∷ hs) h k = let r = all_but_last hs h k.1 in ((k.0, r.0), r.1)
 
-left_last : (whole : List Record) (flight : Option Record) (hs : List Hand) (h : Hand) → HasLeft whole flight (hs ++ h ∷ []) → HasLeft whole flight hs ⊎ (h.left ≡ flight)
+left_last : (whole : List Record) (flight : Option Record) (hs : List Hand) (h : Hand) → HasLeft whole flight (hs ++ h ∷ [])
+    → HasLeft whole flight hs ⊎ (h.left ≡ flight)
 left_last whole flight [] h (inl k) = inr k.0
 left_last whole flight [] h (inr k) = absurd k
 left_last whole flight (g ∷ hs) h (inl k) = inl (inl k)
 left_last whole flight (g ∷ hs) h (inr k) = elim (left_last whole flight hs h k) [ inl m ↦ inl (inr m) | inr e ↦ inr e ]
 
-pub unwatched : (first : Sight) (lanes : List ℕ) (hs : List Hand) (h : Hand) (last : Sight) → Done first (lanes ++ h.lane ∷ []) (hs ++ h ∷ []) last → h.made ≡ [] → h.left ≡ None → Done first lanes hs last
+pub unwatched : (first : Sight) (lanes : List ℕ) (hs : List Hand) (h : Hand) (last : Sight) → Done first (lanes ++ h.lane ∷ []) (hs ++ h ∷ []) last
+    → h.made ≡ [] → h.left ≡ None → Done first lanes hs last
 unwatched first lanes hs h last d made left =
     let hands = all_but_last first.seen d.log last.flight last.faults hs h d.hands in record {
       log = d.log;
@@ -64,7 +68,8 @@ unwatched first lanes hs h last d made left =
     }
 
 -- what the last hand has seen is a beginning of the journal
-pub watched_front : (first : Sight) (lanes : List ℕ) (hs : List Hand) (h : Hand) (last : Sight) → Done first lanes (hs ++ h ∷ []) last → IsEnd h.seen last.seen
+pub watched_front : (first : Sight) (lanes : List ℕ) (hs : List Hand) (h : Hand) (last : Sight) → Done first lanes (hs ++ h ∷ []) last
+    → IsEnd h.seen last.seen
 watched_front first lanes hs h last d =
     let ok = (all_but_last first.seen d.log last.flight last.faults hs h d.hands).1 in
     (ok.rest, d.list ∙ ap (λ l. l ++ first.seen) ok.log_is ∙ append_assoc ok.rest ok.front first.seen ∙ ap (λ l. ok.rest ++ l) (sym ok.seen_is))

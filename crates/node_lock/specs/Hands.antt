@@ -53,8 +53,10 @@ pub record HandFinds (h : Hand) (s : Sight) : Type 0 where
 abbrev pub HandMade : Sight → Hand → Sight → Hand → Type 0
 HandMade s h t g = (g.lane ≡ h.lane) × (
     ((t.seen ≡ s.seen) × (t.flight ≡ s.flight) × (g.made ≡ h.made) × (g.left ≡ h.left))
-    ⊎ (((r : Record) × (is_in_lane h.lane r ≡ true) × (s.flight ≡ None) × (t.flight ≡ None) × (t.seen ≡ r ∷ s.seen) × (g.made ≡ r ∷ h.made) × (g.left ≡ h.left))
-    ⊎ ((r : Record) × (is_in_lane h.lane r ≡ true) × (s.flight ≡ None) × (t.flight ≡ Some r) × (t.seen ≡ s.seen) × (g.made ≡ h.made) × (g.left ≡ Some r))))
+    ⊎ (((r : Record) × (is_in_lane h.lane r ≡ true) × (s.flight ≡ None) × (t.flight ≡ None) × (t.seen ≡ r ∷ s.seen) × (g.made ≡ r ∷ h.made)
+    × (g.left ≡ h.left))
+    ⊎ ((r : Record) × (is_in_lane h.lane r ≡ true) × (s.flight ≡ None) × (t.flight ≡ Some r) × (t.seen ≡ s.seen) × (g.made ≡ h.made)
+    × (g.left ≡ Some r))))
 
 -- What a call tells its seat, whose hand was h and is g. The call went from s to t; `first` is the node at the opening
 pub record Called (first : Sight) (h : Hand) (s t : Sight) (g : Hand) : Type 0 where

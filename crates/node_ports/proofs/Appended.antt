@@ -1,6 +1,7 @@
 -- What a record of a lane leaves of the lane, and of the others.
 use Rattle.std.proofs.Common.{◌≡◌, ◌≢◌, ℕ, true, false, ◌&&◌, ◌==◌, cond, List, ◌∷◌, if◌then◌else◌, Option, Some, refl, ap, ◌∙◌, arith}
-use Rattle.cbdc_model.specs.Records.{Batch, same_batch, Compact, Outcome, Record, record_of, txs_in, outcomes_in, txs_of, outcomes_of, Prepare, Commit, Discard, Done}
+use Rattle.cbdc_model.specs.Records.{Batch, same_batch, Compact, Outcome, Record, record_of, txs_in, outcomes_in, txs_of, outcomes_of, Prepare}
+use Rattle.cbdc_model.specs.Records.{Commit, Discard, Done}
 use Rattle.cbdc_model.specs.Slots.{Slot, Phase, slot, Idle, InPrepare, InCommit, InDiscard}
 use Rattle.cbdc_model.specs.Due.{open_batch}
 use Rattle.cbdc_model.specs.Sights.{Sight}
@@ -75,10 +76,12 @@ module _ (old new : Sight) (lane stamp : ℕ) where
     prepared_phase = ap (λ J. (slot J lane).phase) seen ∙ ap (λ s. s.phase) (own_slot lane number InPrepare (slot J lane))
 
     pub prepared_txs_are : txs_of new.seen (open_batch new.seen lane) ≡ txs
-    prepared_txs_are = ap (λ J. txs_of J (open_batch J lane)) seen ∙ (ap (λ s. txs_of (Prepare stamp B txs ∷ J) (named lane s)) (own_slot lane number InPrepare (slot J lane)) ∙ own_txs stamp B txs J)
+    prepared_txs_are = ap (λ J. txs_of J (open_batch J lane)) seen
+        ∙ (ap (λ s. txs_of (Prepare stamp B txs ∷ J) (named lane s)) (own_slot lane number InPrepare (slot J lane)) ∙ own_txs stamp B txs J)
 
     pub prepared_rest : KeepsRest old new lane
-    prepared_rest = rest old new lane (Prepare stamp B txs) seen (λ l ne. other_slot lane number InPrepare (slot J l) l ne) (λ b ne. other_txs stamp B b txs J ne)
+    prepared_rest = rest old new lane (Prepare stamp B txs) seen (λ l ne. other_slot lane number InPrepare (slot J l) l ne)
+        (λ b ne. other_txs stamp B b txs J ne)
 
   module _ (os : List Outcome) (seen : new.seen ≡ Commit stamp (open_batch old.seen lane) os ∷ old.seen) where
     pub committed_phase : (slot new.seen lane).phase ≡ InCommit
@@ -86,21 +89,26 @@ module _ (old new : Sight) (lane stamp : ℕ) where
 
     pub committed_outcomes : outcomes_of new.seen (open_batch new.seen lane) ≡ os
     committed_outcomes =
-        ap (λ J. outcomes_of J (open_batch J lane)) seen ∙ (ap (λ s. outcomes_of (Commit stamp (open_batch J lane) os ∷ J) (named lane s)) (own_slot lane (slot J lane).number InCommit (slot J lane)) ∙ own_outcomes stamp (open_batch J lane) os J)
+        ap (λ J. outcomes_of J (open_batch J lane)) seen
+        ∙ (ap (λ s. outcomes_of (Commit stamp (open_batch J lane) os ∷ J) (named lane s))
+        (own_slot lane (slot J lane).number InCommit (slot J lane)) ∙ own_outcomes stamp (open_batch J lane) os J)
 
     pub committed_rest : KeepsRest old new lane
-    committed_rest = rest old new lane (Commit stamp (open_batch J lane) os) seen (λ l ne. other_slot lane (slot J lane).number InCommit (slot J l) l ne) (λ b ne. refl)
+    committed_rest = rest old new lane (Commit stamp (open_batch J lane) os) seen
+        (λ l ne. other_slot lane (slot J lane).number InCommit (slot J l) l ne) (λ b ne. refl)
 
   module _ (seen : new.seen ≡ Discard stamp (open_batch old.seen lane) ∷ old.seen) where
     pub discarded_phase : (slot new.seen lane).phase ≡ InDiscard
     discarded_phase = ap (λ J. (slot J lane).phase) seen ∙ ap (λ s. s.phase) (own_slot lane (slot J lane).number InDiscard (slot J lane))
 
     pub discarded_rest : KeepsRest old new lane
-    discarded_rest = rest old new lane (Discard stamp (open_batch J lane)) seen (λ l ne. other_slot lane (slot J lane).number InDiscard (slot J l) l ne) (λ b ne. refl)
+    discarded_rest = rest old new lane (Discard stamp (open_batch J lane)) seen
+        (λ l ne. other_slot lane (slot J lane).number InDiscard (slot J l) l ne) (λ b ne. refl)
 
   module _ (seen : new.seen ≡ Done stamp (open_batch old.seen lane) ∷ old.seen) where
     pub done_phase : (slot new.seen lane).phase ≡ Idle
     done_phase = ap (λ J. (slot J lane).phase) seen ∙ ap (λ s. s.phase) (own_slot lane (slot J lane).number Idle (slot J lane))
 
     pub done_rest : KeepsRest old new lane
-    done_rest = rest old new lane (Done stamp (open_batch J lane)) seen (λ l ne. other_slot lane (slot J lane).number Idle (slot J l) l ne) (λ b ne. refl)
+    done_rest = rest old new lane (Done stamp (open_batch J lane)) seen (λ l ne. other_slot lane (slot J lane).number Idle (slot J l) l ne)
+        (λ b ne. refl)

@@ -19,10 +19,14 @@ pub begins_after : (n : ℕ) (rs : List ShardReplies) → AllAbove (λ r. r.shar
 begins_after n [] above = tt
 begins_after n (r ∷ rs) above = omega (arith, above.0)
 
-pub rises_below : (low limit : ℕ) (rs : List ShardReplies) → BeginsFrom low rs → IsRising (λ r. r.shard) rs → All (λ r. r.shard < limit) rs → ShardsRise low limit rs
+pub rises_below : (low limit : ℕ) (rs : List ShardReplies) → BeginsFrom low rs → IsRising (λ r. r.shard) rs → All (λ r. r.shard < limit) rs
+    → ShardsRise low limit rs
 rises_below low limit [] begins rising below = tt
-rises_below low limit (r ∷ rs) begins rising below =
-    (begins, All-head (λ r. r.shard < limit) r rs below, rises_below (suc r.shard) limit rs (begins_after r.shard rs rising.0) rising.1 (All-tail (λ r. r.shard < limit) r rs below))
+rises_below low limit (r ∷ rs) begins rising below = (
+  begins,
+  All-head (λ r. r.shard < limit) r rs below,
+  rises_below (suc r.shard) limit rs (begins_after r.shard rs rising.0) rising.1 (All-tail (λ r. r.shard < limit) r rs below),
+)
 
 pub begins_low : (rs : List ShardReplies) → BeginsFrom 0 rs
 begins_low [] = tt
@@ -42,5 +46,7 @@ names_one K (Taken x by) is = is.1
 
 pub all_name : (K : Shape) (rs : List ShardReplies) → All (λ r. All (IsReply K) r.replies) rs → AllNameBatches K rs
 all_name K [] all = tt
-all_name K (r ∷ rs) all =
-    (All-weaker (IsReply K) (NamesBatch K) (names_one K) r.replies (All-head (λ r. All (IsReply K) r.replies) r rs all), all_name K rs (All-tail (λ r. All (IsReply K) r.replies) r rs all))
+all_name K (r ∷ rs) all = (
+  All-weaker (IsReply K) (NamesBatch K) (names_one K) r.replies (All-head (λ r. All (IsReply K) r.replies) r rs all),
+  all_name K rs (All-tail (λ r. All (IsReply K) r.replies) r rs all),
+)

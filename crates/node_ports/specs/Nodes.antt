@@ -38,4 +38,5 @@ AreNodesHeld device nodes = All (IsNodeHeld device) nodes
 -- the coordinator's other lanes are as before
 abbrev pub KeepsRest : Sight → Sight → ℕ → Type 0
 KeepsRest old new lane =
-    KeepsOtherLanes old.header lane (λ l. (slot old.seen l).phase) (λ l. (slot new.seen l).phase) (λ l. txs_of old.seen (open_batch old.seen l)) (λ l. txs_of new.seen (open_batch new.seen l))
+    KeepsOtherLanes old.header lane (λ l. (slot old.seen l).phase) (λ l. (slot new.seen l).phase) (λ l. txs_of old.seen (open_batch old.seen l))
+    (λ l. txs_of new.seen (open_batch new.seen l))

@@ -1,8 +1,10 @@
 -- A lane that rests at its coordinator and at all shards is settled there.
-use Rattle.std.proofs.Common.{◌≡◌, ℕ, zero, suc, ◌+◌, ◌*◌, ◌<◌, ◌≤◌, ◌==◌, Bool, true, false, ◌&&◌, if◌then◌else◌, List, [], ◌∷◌, length, None, refl, sym, ap, subst, arith}
+use Rattle.std.proofs.Common.{◌≡◌, ℕ, zero, suc, ◌+◌, ◌*◌, ◌<◌, ◌≤◌, ◌==◌, Bool, true, false, ◌&&◌, if◌then◌else◌, List, [], ◌∷◌, length, None, refl}
+use Rattle.std.proofs.Common.{sym, ap, subst, arith}
 use Rattle.std.specs.Prelude.{All, get_or}
 use Rattle.std.proofs.lemmas.List.Elements.{All-nil, All-head, All-tail}
-use Rattle.cbdc_model.specs.Records.{Shape, Batch, Record, same_batch, kind_of, is_of, record_of, last_stamp, Genesis, Lock, Finish, Forget, Start, Prepare, Commit, Discard, Done}
+use Rattle.cbdc_model.specs.Records.{Shape, Batch, Record, same_batch, kind_of, is_of, record_of, last_stamp, Genesis, Lock, Finish, Forget, Start}
+use Rattle.cbdc_model.specs.Records.{Prepare, Commit, Discard, Done}
 use Rattle.cbdc_model.specs.Ranges.{home_of}
 use Rattle.cbdc_model.specs.Slots.{slot, slot_stamp, Idle}
 use Rattle.cbdc_model.specs.Sights.{Sight}
@@ -33,7 +35,8 @@ never : (a : Bool) → (a && false) ≡ false
 never true = refl
 never false = refl
 
-none_later : (kind lane k : ℕ) (J : List Record) (b : Batch) → All (λ r. number_of_lane lane r ≤ k) J → b.lane ≡ lane → k < b.number → record_of kind J b ≡ None
+none_later : (kind lane k : ℕ) (J : List Record) (b : Batch) → All (λ r. number_of_lane lane r ≤ k) J → b.lane ≡ lane → k < b.number
+    → record_of kind J b ≡ None
 none_later kind lane k [] b all same high = refl
 none_later kind lane k (r ∷ J) b all same high =
     rw (not_of r b lane k (All-head (λ x. number_of_lane lane x ≤ k) r J all) same high)
@@ -89,9 +92,11 @@ module _ {D : Type 0} (K : Shape) (lane k : ℕ) (l : NodeOf D) (nodes : List (N
 
 -- where the coordinator's log stands at its place
 pub rests : {D : Type 0} (K : Shape) (lane k at : ℕ) (l : NodeOf D) (logs nodes : List (NodeOf D))
-    → at < length logs → l ≡ get_or logs at l → LogRests K lane k l → length nodes ≡ K.shards → AllRest K lane k (last_stamp l.journal) 0 nodes → MayRunOver K lane at logs nodes
+    → at < length logs → l ≡ get_or logs at l → LogRests K lane k l → length nodes ≡ K.shards → AllRest K lane k (last_stamp l.journal) 0 nodes
+    → MayRunOver K lane at logs nodes
 rests K lane k at l logs nodes inside stands log as_many rest = record {
-  lane_is = subst (λ (I : Sight). IsLane I.header lane) here (subst (λ (H : Shape). (lane < H.coordinators * H.lanes) × (l.header.node ≡ home_of H lane)) (sym log.shape) (log.inside, log.node));
+  lane_is = subst (λ (I : Sight). IsLane I.header lane) here
+      (subst (λ (H : Shape). (lane < H.coordinators * H.lanes) × (l.header.node ≡ home_of H lane)) (sym log.shape) (log.inside, log.node));
   shape = subst (λ (I : Sight). I.header.shape ≡ K) here log.shape;
   idle = subst (λ (I : Sight). (slot I.seen lane).phase ≡ Idle) here (ap (λ s. s.phase) log.idle);
   as_many = as_many;

@@ -1,5 +1,6 @@
 -- The calls of a phase in two halves: what is asked of them is asked of each, and what is told of each is told of all.
-use Rattle.std.proofs.Common.{inl, inr, ◌≡◌, ◌≢◌, ◌<◌, ◌≤◌, ◌+◌, ◌-◌, ◌/◌, ℕ, zero, suc, false, ◌==◌, Some, List, [], ◌∷◌, ◌++◌, length, get_or, set, refl, sym, ap, ◌∙◌, subst, arith}
+use Rattle.std.proofs.Common.{inl, inr, ◌≡◌, ◌≢◌, ◌<◌, ◌≤◌, ◌+◌, ◌-◌, ◌/◌, ℕ, zero, suc, false, ◌==◌, Some, List, [], ◌∷◌, ◌++◌, length, get_or, set}
+use Rattle.std.proofs.Common.{refl, sym, ap, ◌∙◌, subst, arith}
 use Rattle.std.specs.List.{AllZip, slice_get}
 use Rattle.std.proofs.lemmas.Bool.{cases_lt}
 use Rattle.std.proofs.lemmas.List.{length-append, length-set}
@@ -54,8 +55,10 @@ pub some_back : {X : Type 0} (xs low high : List X) → 2 ≤ length xs → xs �
 some_back xs low high many split half = omega (arith, many, ap length split, length-append low high, half)
 
 -- the back halves of two lists that are as long as each other
-pub backs : {X Y : Type 0} (xs low high : List X) (ys front back : List Y) (half : ℕ) → length ys ≡ length xs → xs ≡ low ++ high → ys ≡ front ++ back → length low ≡ half → length front ≡ half → length back ≡ length high
-backs xs low high ys front back half same split cut n m = omega (arith, same, ap length split, ap length cut, length-append low high, length-append front back, n, m)
+pub backs : {X Y : Type 0} (xs low high : List X) (ys front back : List Y) (half : ℕ) → length ys ≡ length xs → xs ≡ low ++ high → ys ≡ front ++ back
+    → length low ≡ half → length front ≡ half → length back ≡ length high
+backs xs low high ys front back half same split cut n m =
+    omega (arith, same, ap length split, ap length cut, length-append low high, length-append front back, n, m)
 
 pub within_cut : (first at n : ℕ) → (first ≤ at) × (at < first + n) → at - first ≤ n
 within_cut first at n h = omega (arith, h.0, h.1)
@@ -177,21 +180,25 @@ module _ {P C : Type 0} (accepts : C → P → Type 0) where
       )
 
 module _ {P C A : Type 0} (accepts : C → P → Type 0) where
-  module _ (first at : ℕ) (calls : List (ℕ × C)) (ports : List P) (answers : List A) (low high : List (ℕ × C)) (front back : List P) (lows highs : List A) (h : IsPhase accepts first calls ports answers) (are : calls ≡ low ++ high) (split : ports ≡ front ++ back) (cut : IsCut first at low high front back) where
+  module _ (first at : ℕ) (calls : List (ℕ × C)) (ports : List P) (answers : List A) (low high : List (ℕ × C)) (front back : List P)
+      (lows highs : List A) (h : IsPhase accepts first calls ports answers) (are : calls ≡ low ++ high) (split : ports ≡ front ++ back)
+      (cut : IsCut first at low high front back) where
     all_taken : Every (IsCallTaken accepts first (front ++ back)) (low ++ high)
     all_taken = subst (Every (IsCallTaken accepts first (front ++ back))) are (subst (λ ps. Every (IsCallTaken accepts first ps) calls) split h.taken)
 
     pub low_phase : length lows ≡ length low → IsPhase accepts first low front lows
     low_phase room = record {
       rising = rising_front low high (subst (IsRising shard) are h.rising);
-      taken = low_taken accepts first at front back cut.cut low cut.below (every_front (IsCallTaken accepts first (front ++ back)) low high all_taken);
+      taken = low_taken accepts first at front back cut.cut low cut.below
+          (every_front (IsCallTaken accepts first (front ++ back)) low high all_taken);
       room = room;
     }
 
     pub high_phase : length highs ≡ length high → IsPhase accepts at high back highs
     high_phase room = record {
       rising = rising_back low high (subst (IsRising shard) are h.rising);
-      taken = high_taken accepts first at front back cut.cut high cut.above (every_back (IsCallTaken accepts first (front ++ back)) low high all_taken);
+      taken = high_taken accepts first at front back cut.cut high cut.above
+          (every_back (IsCallTaken accepts first (front ++ back)) low high all_taken);
       room = room;
     }
 
@@ -255,28 +262,41 @@ module _ {P C A : Type 0} (makes : C → P → P → A → Type 0) where
               let here : n ≡ length fs + m = omega (arith, ge) in
               let there : n ≡ length gs + m = omega (arith, ge, same) in
               let shard_is : first + n ≡ at + m = omega (arith, ge, cut) in
-              back gs hs n m there ∙ (h.others m (subst (NotAmong shard high) shard_is (not_back low high (first + n) not)) ∙ sym (back fs bs n m here))
+              back gs hs n m there ∙ (h.others m (subst (NotAmong shard high) shard_is (not_back low high (first + n) not))
+              ∙ sym (back fs bs n m here))
         ]
 
-  pub all_made : (first at : ℕ) (calls low high : List (ℕ × C)) (ports fs bs gs hs : List P) (xs ys : List A) → calls ≡ low ++ high → ports ≡ fs ++ bs → first + length fs ≡ at
+  pub all_made : (first at : ℕ) (calls low high : List (ℕ × C)) (ports fs bs gs hs : List P) (xs ys : List A) → calls ≡ low ++ high
+      → ports ≡ fs ++ bs → first + length fs ≡ at
       → IsPhaseMade makes first low fs gs xs → IsPhaseMade makes at high bs hs ys → IsPhaseMade makes first calls ports (gs ++ hs) (xs ++ ys)
   all_made first at calls low high ports fs bs gs hs xs ys are split cut l h =
       subst (λ cs. IsPhaseMade makes first cs ports (gs ++ hs) (xs ++ ys)) (sym are)
-      (subst (λ ps. IsPhaseMade makes first (low ++ high) ps (gs ++ hs) (xs ++ ys)) (sym split) (both_made first at fs bs gs hs cut l.count low high xs ys l h))
+      (subst (λ ps. IsPhaseMade makes first (low ++ high) ps (gs ++ hs) (xs ++ ys)) (sym split)
+      (both_made first at fs bs gs hs cut l.count low high xs ys l h))
 
   -- no call
-  pub none_made : (first : ℕ) (ports : List P) (calls : List (ℕ × C)) (answers : List A) → length calls ≡ 0 → length answers ≡ length calls → IsPhaseMade makes first calls ports ports answers
+  pub none_made : (first : ℕ) (ports : List P) (calls : List (ℕ × C)) (answers : List A) → length calls ≡ 0 → length answers ≡ length calls
+      → IsPhaseMade makes first calls ports ports answers
   none_made first ports [] [] e f = record { count = refl; each = tt; others = λ n not. refl }
   none_made first ports [] (x ∷ xs) e f = absurd (omega (arith, f))
   none_made first ports (c ∷ cs) answers e f = absurd (omega (arith, e))
 
   -- one call
-  pub one_made : (first : ℕ) (ports : List P) (c : ℕ × C) (place : ℕ) (answers : List A) (p q : P) (a : A) → c.0 ≡ first + place → slice_get ports place ≡ Some p → length answers ≡ 1
+  pub one_made : (first : ℕ) (ports : List P) (c : ℕ × C) (place : ℕ) (answers : List A) (p q : P) (a : A) → c.0 ≡ first + place
+      → slice_get ports place ≡ Some p → length answers ≡ 1
       → makes c.1 p q a → IsPhaseMade makes first (c ∷ []) ports (set ports place q) (set answers 0 a)
   one_made first ports c place answers p q a is found len made = record {
     count = length-set ports place q;
     each = subst (λ xs. AllZip (IsMade makes first ports (set ports place q)) (c ∷ []) xs) (sym (one answers len a)) (
-      record { place = place; place_is = is; before = p; was = found; after = q; is = set_here ports place q (within ports place p found); made = made },
+      record {
+        place = place;
+        place_is = is;
+        before = p;
+        was = found;
+        after = q;
+        is = set_here ports place q (within ports place p found);
+        made = made;
+      },
       tt,
     );
     others = λ n not. set_elsewhere ports place q n (λ e. differs c.0 (first + n) not.0 (ap (λ k. first + k) e ∙ sym is));
@@ -287,7 +307,8 @@ module _ {P C A : Type 0} (makes : C → P → P → A → Type 0) where
 pub no_rest : {X : Type 0} (x : X) (xs rest : List X) → length xs < 2 → xs ≡ x ∷ rest → length rest ≡ 0
 no_rest x xs rest few are = omega (arith, few, ap length are)
 
-module _ {P C A : Type 0} (accepts : C → P → Type 0) (first : ℕ) (calls : List (ℕ × C)) (ports : List P) (answers : List A) (c : ℕ × C) (rest : List (ℕ × C)) (h : IsPhase accepts first calls ports answers) (are : calls ≡ c ∷ rest) where
+module _ {P C A : Type 0} (accepts : C → P → Type 0) (first : ℕ) (calls : List (ℕ × C)) (ports : List P) (answers : List A) (c : ℕ × C)
+    (rest : List (ℕ × C)) (h : IsPhase accepts first calls ports answers) (are : calls ≡ c ∷ rest) where
   pub first_call : IsCallTaken accepts first ports c
   first_call = (subst (Every (IsCallTaken accepts first ports)) are h.taken).0
 
@@ -298,9 +319,11 @@ module _ {P C A : Type 0} (accepts : C → P → Type 0) (first : ℕ) (calls : 
   inside = let t = first_call in let e = t.place_is in omega (arith, e, within ports t.place t.port t.found)
 
   pub port_is : (d : P) → get_or ports (c.0 - first) d ≡ first_call.port
-  port_is d = let t = first_call in let e = t.place_is in let n : c.0 - first ≡ t.place = omega (arith, e) in ap (λ k. get_or ports k d) n ∙ read ports t.place t.port d t.found
+  port_is d = let t = first_call in let e = t.place_is in let n : c.0 - first ≡ t.place = omega (arith, e) in
+      ap (λ k. get_or ports k d) n ∙ read ports t.place t.port d t.found
 
-  pub made_alone : (makes : C → P → P → A → Type 0) (q : P) (a : A) → length rest ≡ 0 → makes c.1 first_call.port q a → IsPhaseMade makes first calls ports (set ports (c.0 - first) q) (set answers 0 a)
+  pub made_alone : (makes : C → P → P → A → Type 0) (q : P) (a : A) → length rest ≡ 0 → makes c.1 first_call.port q a
+      → IsPhaseMade makes first calls ports (set ports (c.0 - first) q) (set answers 0 a)
   made_alone makes q a none made =
       let t = first_call in
       let e = t.place_is in
@@ -308,7 +331,8 @@ module _ {P C A : Type 0} (accepts : C → P → Type 0) (first : ℕ) (calls : 
       let alone : calls ≡ c ∷ [] = are ∙ ap (λ xs. c ∷ xs) (empty rest none) in
       let room : length answers ≡ 1 = h.room ∙ ap length alone in
       subst (λ cs. IsPhaseMade makes first cs ports (set ports (c.0 - first) q) (set answers 0 a)) (sym alone)
-      (subst (λ k. IsPhaseMade makes first (c ∷ []) ports (set ports k q) (set answers 0 a)) n (one_made makes first ports c t.place answers t.port q a t.place_is t.found room made))
+      (subst (λ k. IsPhaseMade makes first (c ∷ []) ports (set ports k q) (set answers 0 a)) n
+      (one_made makes first ports c t.place answers t.port q a t.place_is t.found room made))
     where
       empty : (xs : List (ℕ × C)) → length xs ≡ 0 → xs ≡ []
       empty [] e = refl

@@ -67,7 +67,8 @@ pub record IsMade {P C A : Type 0} (makes : C → P → P → A → Type 0) (fir
   pub made : makes c.1 before after a
 
 -- each call is made, answered at its place among the calls, and no other port is touched
-pub record IsPhaseMade {P C A : Type 0} (makes : C → P → P → A → Type 0) (first : ℕ) (calls : List (ℕ × C)) (old new : List P) (answers : List A) : Type 0 where
+pub record IsPhaseMade {P C A : Type 0} (makes : C → P → P → A → Type 0) (first : ℕ) (calls : List (ℕ × C)) (old new : List P) (answers : List A) :
+    Type 0 where
   pub count : length new ≡ length old
   pub each : AllZip (IsMade makes first old new) calls answers
   pub others : (n : ℕ) → NotAmong shard calls (first + n) → slice_get new n ≡ slice_get old n
@@ -97,7 +98,8 @@ pub record IsPhaseAsked {P C A : Type 0} (fits : Header → C → Type 0) (lane_
   pub room : length calls ≤ vec_capacity out
 
 -- they are made, and answered
-pub record IsPhaseTold {P C A : Type 0} (makes : C → P → P → A → Type 0) (calls : List (ℕ × C)) (out : Vec A) (ports : List P) (out' : Vec A) (ports' : List P) : Type 0 where
+pub record IsPhaseTold {P C A : Type 0} (makes : C → P → P → A → Type 0) (calls : List (ℕ × C)) (out : Vec A) (ports : List P) (out' : Vec A)
+    (ports' : List P) : Type 0 where
   pub made : IsPhaseMade makes 0 calls ports ports' out'.items
   pub capacity : vec_capacity out' ≡ vec_capacity out
 
@@ -127,10 +129,12 @@ module _ {P : Type 0} (sight : P → Sight) (serves : P → ℕ → Type 0) wher
     abbrev pub Forgets : ForgetCall → P → P → Result ℕ NodeFault → Type 0
     Forgets = Answered (ForgetAnswer alone) IsStampAnswer at sight faults holds serves
 
-module _ {F P C A : Type 0} (g : Shared F (Bor (List (ℕ × C)) × (MutBor (Vec A) × (MutBor (List P) × Unit {0}))) (Unit {0} × (MutBor (Vec A) × (MutBor (List P) × Unit {0})))) where
+module _ {F P C A : Type 0} (g : Shared F (Bor (List (ℕ × C)) × (MutBor (Vec A) × (MutBor (List P) × Unit {0})))
+    (Unit {0} × (MutBor (Vec A) × (MutBor (List P) × Unit {0})))) where
   -- f may be called with these calls, places and ports
   abbrev pub TakesPhase : F → List (ℕ × C) → Vec A → List P → Type 0
-  TakesPhase f cs os ps = (calls : Bor (List (ℕ × C))) (out : MutBor (Vec A)) (ports : MutBor (List P)) → calls.now ≡ cs → out.now ≡ os → ports.now ≡ ps → g.pre f (calls, (out, (ports, tt)))
+  TakesPhase f cs os ps = (calls : Bor (List (ℕ × C))) (out : MutBor (Vec A)) (ports : MutBor (List P)) → calls.now ≡ cs → out.now ≡ os
+      → ports.now ≡ ps → g.pre f (calls, (out, (ports, tt)))
 
   -- and such a call may leave these
   pub record PhaseCalled (f : F) (cs : List (ℕ × C)) (os : Vec A) (ps : List P) (os' : Vec A) (ps' : List P) : Type 0 where
@@ -149,12 +153,17 @@ module _ {F P C A : Type 0} (g : Shared F (Bor (List (ℕ × C)) × (MutBor (Vec
   -- each value of this type may be called with the calls of any phase that is asked for, and makes them
   pub record MakesPhases (asks : List (ℕ × C) → Vec A → List P → Type 0) (makes : C → P → P → A → Type 0) : Type 0 where
     pub takes : (f : F) (cs : List (ℕ × C)) (os : Vec A) (ps : List P) → asks cs os ps → TakesPhase f cs os ps
-    pub tells : (f : F) (cs : List (ℕ × C)) (os : Vec A) (ps : List P) (os' : Vec A) (ps' : List P) → PhaseCalled f cs os ps os' ps' → IsPhaseTold makes cs os ps os' ps'
+    pub tells : (f : F) (cs : List (ℕ × C)) (os : Vec A) (ps : List P) (os' : Vec A) (ps' : List P) → PhaseCalled f cs os ps os' ps'
+        → IsPhaseTold makes cs os ps os' ps'
 
 -- what makes the lock, finish and forget calls of a phase, at either pace
-pub record MakesAll {FL FN FT P : Type 0} (gl : Shared FL (Bor (List (ℕ × LockCall)) × (MutBor (Vec (Result Replied NodeFault)) × (MutBor (List P) × Unit {0}))) (Unit {0} × (MutBor (Vec (Result Replied NodeFault)) × (MutBor (List P) × Unit {0}))))
-    (gn : Shared FN (Bor (List (ℕ × FinishCall)) × (MutBor (Vec (Result ℕ NodeFault)) × (MutBor (List P) × Unit {0}))) (Unit {0} × (MutBor (Vec (Result ℕ NodeFault)) × (MutBor (List P) × Unit {0}))))
-    (gt : Shared FT (Bor (List (ℕ × ForgetCall)) × (MutBor (Vec (Result ℕ NodeFault)) × (MutBor (List P) × Unit {0}))) (Unit {0} × (MutBor (Vec (Result ℕ NodeFault)) × (MutBor (List P) × Unit {0}))))
+pub record MakesAll {FL FN FT P : Type 0} (gl : Shared FL
+    (Bor (List (ℕ × LockCall)) × (MutBor (Vec (Result Replied NodeFault)) × (MutBor (List P) × Unit {0})))
+    (Unit {0} × (MutBor (Vec (Result Replied NodeFault)) × (MutBor (List P) × Unit {0}))))
+    (gn : Shared FN (Bor (List (ℕ × FinishCall)) × (MutBor (Vec (Result ℕ NodeFault)) × (MutBor (List P) × Unit {0})))
+    (Unit {0} × (MutBor (Vec (Result ℕ NodeFault)) × (MutBor (List P) × Unit {0}))))
+    (gt : Shared FT (Bor (List (ℕ × ForgetCall)) × (MutBor (Vec (Result ℕ NodeFault)) × (MutBor (List P) × Unit {0})))
+    (Unit {0} × (MutBor (Vec (Result ℕ NodeFault)) × (MutBor (List P) × Unit {0}))))
     (sight : P → Sight) (serves : P → ℕ → Type 0) (alone : Bool) (at : P → ℕ) (faults : P → ℕ) (holds : P → Type 0) : Type 0 where
   pub lock : MakesPhases gl (AsksLocks sight serves) (Locks sight serves alone at faults holds)
   pub finish : MakesPhases gn (AsksFinishes sight serves) (Finishes sight serves alone at faults holds)

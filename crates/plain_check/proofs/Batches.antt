@@ -6,7 +6,8 @@ use Rattle.same_records.proofs.Alikeness.{same_batch_is, same_batch_self}
 use Rattle.plain_check.specs.Adding.{IsAdded}
 
 -- a record is new where its batch is one of which records may be written
-pub new_by : (of : Batch → Type 0) (r : Record) (own : Batch) (told : Bool) → ((b : Batch) → is_of b r ≡ same_batch own b) → (IsTrue told ↔ of own) → IsTrue told ↔ IsAdded of r
+pub new_by : (of : Batch → Type 0) (r : Record) (own : Batch) (told : Bool) → ((b : Batch) → is_of b r ≡ same_batch own b) → (IsTrue told ↔ of own)
+    → IsTrue told ↔ IsAdded of r
 new_by of r own told is may = (
   λ t. (own, is own ∙ same_batch_self own, may.0 t),
   λ new. may.1 (subst of (sym (same_batch_is own new.0 (sym (is new.0) ∙ new.1))) new.2),

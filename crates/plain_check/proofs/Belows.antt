@@ -12,8 +12,10 @@ no_lie t = search rules
 other_node : (m n k : ℕ) → m < n → n ≤ k → (m == k) ≡ false
 other_node m n k lt le = grind arith
 
-numbered_more : (rows past : List Row) (row : Row) (n : ℕ) → rows ≡ row ∷ past → row.node < n → ((k : ℕ) → n ≤ k → journal k past ≡ []) → (k : ℕ) → n ≤ k → journal k rows ≡ []
-numbered_more rows past row n e lt none k le = subst (λ l. journal k l ≡ []) (sym e) (head_away row past k (other_node row.node n k lt le) ∙ none k le)
+numbered_more : (rows past : List Row) (row : Row) (n : ℕ) → rows ≡ row ∷ past → row.node < n → ((k : ℕ) → n ≤ k → journal k past ≡ []) → (k : ℕ)
+    → n ≤ k → journal k rows ≡ []
+numbered_more rows past row n e lt none k le = subst (λ l. journal k l ≡ []) (sym e)
+    (head_away row past k (other_node row.node n k lt le) ∙ none k le)
 
 pub below_more : (rows past : List Row) (row : Row) (n : ℕ) (told : Bool) → rows ≡ row ∷ past → row.node < n
     → (IsTrue told ↔ ((k : ℕ) → n ≤ k → journal k past ≡ [])) → IsTrue told ↔ ((k : ℕ) → n ≤ k → journal k rows ≡ [])
@@ -25,7 +27,8 @@ below_more rows past row n told e lt h = (
 pub below_not : (rows past : List Row) (row : Row) (n : ℕ) → rows ≡ row ∷ past → n ≤ row.node → IsTrue false ↔ ((k : ℕ) → n ≤ k → journal k rows ≡ [])
 below_not rows past row n e le = (
   λ t. absurd (no_lie t),
-  λ all. absurd (some row.what (journal row.node past) (sym (head_at row past row.node refl) ∙ subst (λ l. journal row.node l ≡ []) e (all row.node le))),
+  λ all. absurd (some row.what (journal row.node past)
+      (sym (head_at row past row.node refl) ∙ subst (λ l. journal row.node l ≡ []) e (all row.node le))),
 )
   where
     some : (r : Record) (J : List Record) → r ∷ J ≡ [] → ⊥

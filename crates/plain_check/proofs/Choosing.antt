@@ -1,5 +1,6 @@
 -- What given journals may have been once is among the choices.
-use Rattle.std.proofs.Common.{◌≡◌, ◌↔◌, inl, inr, ℕ, Bool, ◌≤◌, zero, suc, ◌<◌, List, [], ◌∷◌, ◌++◌, map, length, slice_index_or, refl, sym, ap, ◌∙◌, subst, arith}
+use Rattle.std.proofs.Common.{◌≡◌, ◌↔◌, inl, inr, ℕ, Bool, ◌≤◌, zero, suc, ◌<◌, List, [], ◌∷◌, ◌++◌, map, length, slice_index_or, refl, sym, ap, ◌∙◌}
+use Rattle.std.proofs.Common.{subst, arith}
 use Rattle.std.specs.Prelude.{IsTrue}
 use Rattle.std.proofs.lemmas.Bool.{cases_lt}
 use Rattle.std.proofs.lemmas.Grind.{common_steps}
@@ -31,9 +32,11 @@ end_among : (more old J : List Record) → J ≡ more ++ old → In old (ends_of
 end_among [] old J e = subst (λ L. In old (ends_of L)) (sym e) (self_first old)
 end_among (r ∷ more) old J e = subst (λ L. In old (ends_of L)) (sym e) (inr (end_among more old (more ++ old) refl))
 
-both_among : (J : List Record) (w : List (List Record)) (Js : List (List Record)) (others : List (List (List Record))) → In J Js → In w others → In (J ∷ w) (each_before Js others)
+both_among : (J : List Record) (w : List (List Record)) (Js : List (List Record)) (others : List (List (List Record))) → In J Js → In w others
+    → In (J ∷ w) (each_before Js others)
 both_among J w [] others h g = absurd h
-both_among J w (I ∷ Js) others (inl e) g = in_left (map (λ v. I ∷ v) others) (each_before Js others) (J ∷ w) (subst (λ L. In (J ∷ w) (map (λ v. L ∷ v) others)) e (in_map (λ v. J ∷ v) others w g))
+both_among J w (I ∷ Js) others (inl e) g = in_left (map (λ v. I ∷ v) others) (each_before Js others) (J ∷ w)
+    (subst (λ L. In (J ∷ w) (map (λ v. L ∷ v) others)) e (in_map (λ v. J ∷ v) others w g))
 both_among J w (I ∷ Js) others (inr h) g = in_right (map (λ v. I ∷ v) others) (each_before Js others) (J ∷ w) (both_among J w Js others h g)
 
 -- journals that are among the choices
@@ -62,7 +65,8 @@ is_some_choice (J ∷ Js) M ends =
       is = at J Js M rest.world rest.is;
     }
   where
-    at : (J : List Record) (Js : List (List Record)) (M : ℕ → List Record) (w : List (List Record)) → ((n : ℕ) → M (suc n) ≡ journals_in w n) → (n : ℕ) → M n ≡ journals_in (M 0 ∷ w) n
+    at : (J : List Record) (Js : List (List Record)) (M : ℕ → List Record) (w : List (List Record)) → ((n : ℕ) → M (suc n) ≡ journals_in w n)
+        → (n : ℕ) → M n ≡ journals_in (M 0 ∷ w) n
     at J Js M w h zero = refl
     at J Js M w h (suc n) = h n
 
@@ -75,7 +79,8 @@ pub record IsAt (all : List (List (List Record))) (w : List (List Record)) : Typ
 pub place_among : (all : List (List (List Record))) (w : List (List Record)) → In w all → IsAt all w
 place_among [] w h = absurd h
 place_among (v ∷ all) w (inl e) = record { place = 0; inside = omega arith; is = sym e }
-place_among (v ∷ all) w (inr h) = let later : IsAt all w = place_among all w h in record { place = suc later.place; inside = omega (arith, later.inside); is = later.is }
+place_among (v ∷ all) w (inr h) = let later : IsAt all w = place_among all w h in
+    record { place = suc later.place; inside = omega (arith, later.inside); is = later.is }
 
 -- all journals are the same where the first n are, and there are no others
 pub same_by : (I J : ℕ → List Record) (n : ℕ) (told : Bool) → ((k : ℕ) → n ≤ k → I k ≡ []) → ((k : ℕ) → n ≤ k → J k ≡ [])

@@ -1,5 +1,6 @@
 -- A list is cut into pieces in one way.
-use Rattle.std.proofs.Common.{◌≡◌, ◌↔◌, Bool, inl, inr, ℕ, ◌<◌, List, [], ◌∷◌, ◌++◌, zero, suc, ◌≤◌, min, take, drop, length, reverse, refl, sym, ap, ◌∙◌, subst, arith, append-nil, append_assoc}
+use Rattle.std.proofs.Common.{◌≡◌, ◌↔◌, Bool, inl, inr, ℕ, ◌<◌, List, [], ◌∷◌, ◌++◌, zero, suc, ◌≤◌, min, take, drop, length, reverse, refl, sym, ap}
+use Rattle.std.proofs.Common.{◌∙◌, subst, arith, append-nil, append_assoc}
 use Rattle.std.proofs.lemmas.Bool.{cases_lt}
 use Rattle.std.proofs.lemmas.Grind.{common_steps}
 use Rattle.std.proofs.lemmas.List.{take_min}
@@ -26,8 +27,10 @@ cut_once n xs (a ∷ ps) (b ∷ qs) p q =
     λ i. first i ∷ rest i
 
 -- a lane prepared what it got where its Prepares are the pieces behind the older ones
-pub prepared_by : (K : Shape) (lane n : ℕ) (sent : List Compact) (old new : List Record) (pieces found wanted : List (List Compact)) (told : Bool) → n ≡ K.batch → IsCut n sent pieces
-    → found ≡ prepared lane new → wanted ≡ reverse pieces ++ prepared lane old → (IsTrue told ↔ (found ≡ wanted)) → IsTrue told ↔ PreparesInPieces K lane sent old new
+pub prepared_by : (K : Shape) (lane n : ℕ) (sent : List Compact) (old new : List Record) (pieces found wanted : List (List Compact)) (told : Bool)
+    → n ≡ K.batch → IsCut n sent pieces
+    → found ≡ prepared lane new → wanted ≡ reverse pieces ++ prepared lane old → (IsTrue told ↔ (found ≡ wanted))
+    → IsTrue told ↔ PreparesInPieces K lane sent old new
 prepared_by K lane n sent old new pieces found wanted told size cut f w h =
     let own : IsCut K.batch sent pieces = subst (λ k. IsCut k sent pieces) size cut in (
       λ t. (pieces, own, sym f ∙ h.0 t ∙ w),
@@ -38,13 +41,15 @@ prepared_by K lane n sent old new pieces found wanted told size cut f w h =
 pub prepared_alike : (K : Shape) (lane : ℕ) (sent sent' : List Compact) (old old' new new' : List Record) → sent ≡ sent' → old ≡ old' → new ≡ new'
     → PreparesInPieces K lane sent old new → PreparesInPieces K lane sent' old' new'
 prepared_alike K lane sent sent' old old' new new' s o n h =
-    subst (λ l. PreparesInPieces K lane sent' old' l) n (subst (λ l. PreparesInPieces K lane sent' l new) o (subst (λ l. PreparesInPieces K lane l old new) s h))
+    subst (λ l. PreparesInPieces K lane sent' old' l) n
+    (subst (λ l. PreparesInPieces K lane sent' l new) o (subst (λ l. PreparesInPieces K lane l old new) s h))
 
 -- one piece after another
 pub no_pieces : (n : ℕ) (txs : List Compact) (old : List (List Compact)) → txs ≡ [] → AddsPieces n txs old old
 no_pieces n txs old e = ([], e, sym (append-nil old))
 
-pub more_pieces : (n : ℕ) (txs piece rest : List Compact) (old mid new : List (List Compact)) → 0 < length piece → piece ≡ take n txs → rest ≡ drop n txs
+pub more_pieces : (n : ℕ) (txs piece rest : List Compact) (old mid new : List (List Compact)) → 0 < length piece → piece ≡ take n txs
+    → rest ≡ drop n txs
     → mid ≡ old ++ piece ∷ [] → AddsPieces n rest mid new → AddsPieces n txs old new
 more_pieces n txs piece rest old mid new some e f m later = (
   piece ∷ later.0,

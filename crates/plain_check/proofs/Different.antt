@@ -26,7 +26,8 @@ last_set (x ∷ xs) = elim (has xs x) as (λ b. has xs x ≡ b → IsSet (if b t
 ] refl
 
 -- of the unspent hashes, the different ones are counted
-pub different_counted : (K : Shape) (J : ℕ → List Record) (xs : List Digest) (n : ℕ) → ((x : Digest) → (has xs x ≡ true) ↔ IsUnspent K J x) → n ≡ length (last_ones xs) → IsUnspentCount K J n
+pub different_counted : (K : Shape) (J : ℕ → List Record) (xs : List Digest) (n : ℕ) → ((x : Digest) → (has xs x ≡ true) ↔ IsUnspent K J x)
+    → n ≡ length (last_ones xs) → IsUnspentCount K J n
 different_counted K J xs n all e = record {
   hashes = last_ones xs;
   once = last_set xs;

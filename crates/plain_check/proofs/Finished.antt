@@ -1,10 +1,12 @@
 -- What it takes for batches to be finished alike, shard by shard and record by record.
-use Rattle.std.proofs.Common.{◌≡◌, ◌⊎◌, ◌↔◌, inl, inr, ℕ, zero, suc, ◌-◌, ◌<◌, ◌≤◌, ◌==◌, Bool, true, false, ◌&&◌, List, [], ◌∷◌, length, drop, is_some, refl, sym, ap, ◌∙◌, subst, arith, rules}
+use Rattle.std.proofs.Common.{◌≡◌, ◌⊎◌, ◌↔◌, inl, inr, ℕ, zero, suc, ◌-◌, ◌<◌, ◌≤◌, ◌==◌, Bool, true, false, ◌&&◌, List, [], ◌∷◌, length, drop}
+use Rattle.std.proofs.Common.{is_some, refl, sym, ap, ◌∙◌, subst, arith, rules}
 use Rattle.std.specs.Prelude.{IsTrue}
 use Rattle.std.proofs.lemmas.Grind.{common_steps}
 use Rattle.std.proofs.lemmas.List.{get_or_past}
 use Rattle.std.proofs.lemmas.Bool.{cases_lt}
-use Rattle.cbdc_model.specs.Records.{Shape, Batch, Record, Compact, Outcome, kind_of, is_of, same_batch, record_of, txs_of, outcomes_of, decisions_in, Prepare}
+use Rattle.cbdc_model.specs.Records.{Shape, Batch, Record, Compact, Outcome, kind_of, is_of, same_batch, record_of, txs_of, outcomes_of, decisions_in}
+use Rattle.cbdc_model.specs.Records.{Prepare}
 use Rattle.cbdc_model.specs.Ranges.{home_of, shard_node, on_shard, is_empty, entry_of, part}
 use Rattle.cbdc_model.specs.Outcomes.{won_at, decisions}
 use Rattle.cbdc_model.specs.World.{count_of, IsAlike, Alike}
@@ -17,7 +19,8 @@ no_lie t = search rules
 
 -- the decisions of a part, transaction by transaction
 abbrev pub TellsDecisions : ℕ → ℕ → List Compact → List Outcome → List Bool → Bool → Type 0
-TellsDecisions shards s txs outcomes ds told = (all : List Outcome) (place : ℕ) → outcomes ≡ drop place all → IsTrue told ↔ (ds ≡ decisions all (part shards s place txs))
+TellsDecisions shards s txs outcomes ds told = (all : List Outcome) (place : ℕ) → outcomes ≡ drop place all
+    → IsTrue told ↔ (ds ≡ decisions all (part shards s place txs))
 
 drop_next : {A : Type 0} (all : List A) (place : ℕ) → drop 1 (drop place all) ≡ drop (suc place) all
 drop_next [] zero = refl
@@ -31,7 +34,8 @@ won_next [] (suc place) = refl
 won_next (o ∷ all) zero = refl
 won_next (o ∷ all) (suc place) = won_next all place
 
-elsewhere : (shards s k : ℕ) (t : Compact) (ts : List Compact) → is_empty (on_shard shards s t.inputs) ≡ true → is_empty (on_shard shards s t.outputs) ≡ true
+elsewhere : (shards s k : ℕ) (t : Compact) (ts : List Compact) → is_empty (on_shard shards s t.inputs) ≡ true
+    → is_empty (on_shard shards s t.outputs) ≡ true
     → part shards s k (t ∷ ts) ≡ part shards s (suc k) ts
 elsewhere shards s k t ts e f = rw (e, f) refl
 
@@ -39,17 +43,23 @@ here : (shards s k : ℕ) (t : Compact) (ts : List Compact) → (is_empty (on_sh
     → part shards s k (t ∷ ts) ≡ entry_of shards s k t ∷ part shards s (suc k) ts
 here shards s k t ts e = rw e refl
 
-pub decides_none : (shards s : ℕ) (txs : List Compact) (outcomes : List Outcome) (ds : List Bool) (told : Bool) → txs ≡ [] → (IsTrue told ↔ (ds ≡ [])) → TellsDecisions shards s txs outcomes ds told
+pub decides_none : (shards s : ℕ) (txs : List Compact) (outcomes : List Outcome) (ds : List Bool) (told : Bool) → txs ≡ []
+    → (IsTrue told ↔ (ds ≡ [])) → TellsDecisions shards s txs outcomes ds told
 decides_none shards s txs outcomes ds told e h all place is = subst (λ l. IsTrue told ↔ (ds ≡ decisions all (part shards s place l))) (sym e) h
 
-pub decides_elsewhere : (shards s : ℕ) (txs : List Compact) (t : Compact) (ts : List Compact) (outcomes back : List Outcome) (ds : List Bool) (told : Bool)
+pub decides_elsewhere : (shards s : ℕ) (txs : List Compact) (t : Compact) (ts : List Compact) (outcomes back : List Outcome) (ds : List Bool)
+    (told : Bool)
     → txs ≡ t ∷ ts → is_empty (on_shard shards s t.inputs) ≡ true → is_empty (on_shard shards s t.outputs) ≡ true → back ≡ drop 1 outcomes
     → TellsDecisions shards s ts back ds told → TellsDecisions shards s txs outcomes ds told
 decides_elsewhere shards s txs t ts outcomes back ds told list e f b rest all place is =
-    subst (λ l. IsTrue told ↔ (ds ≡ decisions all (part shards s place l))) (sym list) (subst (λ es. IsTrue told ↔ (ds ≡ decisions all es)) (sym (elsewhere shards s place t ts e f)) (rest all (suc place) (b ∙ ap (drop 1) is ∙ drop_next all place)))
+    subst (λ l. IsTrue told ↔ (ds ≡ decisions all (part shards s place l))) (sym list)
+    (subst (λ es. IsTrue told ↔ (ds ≡ decisions all es)) (sym (elsewhere shards s place t ts e f))
+    (rest all (suc place) (b ∙ ap (drop 1) is ∙ drop_next all place)))
 
-pub decides_here : (shards s : ℕ) (txs : List Compact) (t : Compact) (ts : List Compact) (outcomes back : List Outcome) (all_ds : List Bool) (d : Bool) (ds : List Bool) (told : Bool)
-    → txs ≡ t ∷ ts → all_ds ≡ d ∷ ds → (is_empty (on_shard shards s t.inputs) && is_empty (on_shard shards s t.outputs)) ≡ false → back ≡ drop 1 outcomes → d ≡ won_at outcomes 0
+pub decides_here : (shards s : ℕ) (txs : List Compact) (t : Compact) (ts : List Compact) (outcomes back : List Outcome) (all_ds : List Bool)
+    (d : Bool) (ds : List Bool) (told : Bool)
+    → txs ≡ t ∷ ts → all_ds ≡ d ∷ ds → (is_empty (on_shard shards s t.inputs) && is_empty (on_shard shards s t.outputs)) ≡ false
+    → back ≡ drop 1 outcomes → d ≡ won_at outcomes 0
     → TellsDecisions shards s ts back ds told → TellsDecisions shards s txs outcomes all_ds told
 decides_here shards s txs t ts outcomes back all_ds d ds told list list' e b same rest all place is =
     let first : d ≡ won_at all place = same ∙ ap (λ l. won_at l 0) is ∙ won_next all place in
@@ -65,23 +75,30 @@ decides_here shards s txs t ts outcomes back all_ds d ds told list list' e b sam
     tails a rest b more e = cc
 
 pub decides_not : (shards s : ℕ) (txs : List Compact) (t : Compact) (ts : List Compact) (outcomes : List Outcome) (ds : List Bool)
-    → txs ≡ t ∷ ts → (is_empty (on_shard shards s t.inputs) && is_empty (on_shard shards s t.outputs)) ≡ false → ((d : Bool) (rest : List Bool) → ds ≡ d ∷ rest → d ≡ won_at outcomes 0 → ⊥)
+    → txs ≡ t ∷ ts → (is_empty (on_shard shards s t.inputs) && is_empty (on_shard shards s t.outputs)) ≡ false
+    → ((d : Bool) (rest : List Bool) → ds ≡ d ∷ rest → d ≡ won_at outcomes 0 → ⊥)
     → TellsDecisions shards s txs outcomes ds false
 decides_not shards s txs t ts outcomes ds list e differ all place is =
-    subst (λ l. IsTrue false ↔ (ds ≡ decisions all (part shards s place l))) (sym list) (subst (λ es. IsTrue false ↔ (ds ≡ decisions all es)) (sym (here shards s place t ts e)) (
+    subst (λ l. IsTrue false ↔ (ds ≡ decisions all (part shards s place l))) (sym list)
+    (subst (λ es. IsTrue false ↔ (ds ≡ decisions all es)) (sym (here shards s place t ts e)) (
       λ lie. absurd (no_lie lie),
-      λ same. absurd (differ (won_at all place) (decisions all (part shards s (suc place) ts)) same (sym (ap (λ l. won_at l 0) is ∙ won_next all place))),
+      λ same. absurd (differ (won_at all place) (decisions all (part shards s (suc place) ts)) same
+          (sym (ap (λ l. won_at l 0) is ∙ won_next all place))),
     ))
 
 -- what is finished at a shard
-pub finished_by : (K : Shape) (J : ℕ → List Record) (b : Batch) (s : ℕ) (told : Bool) (own home : List Record) (shards : ℕ) (txs : List Compact) (outcomes : List Outcome) (ds : List Bool)
-    → own ≡ J (shard_node K s) → home ≡ J (home_of K b.lane) → shards ≡ K.shards → txs ≡ txs_of home b → outcomes ≡ outcomes_of home b → ds ≡ decisions_in (record_of 3 own b)
-    → count_of 2 own b ≡ 1 → count_of 3 own b ≡ 1 → (IsTrue told ↔ (ds ≡ decisions outcomes (part shards s 0 txs))) → IsTrue told ↔ IsFinishedAt K J b s
+pub finished_by : (K : Shape) (J : ℕ → List Record) (b : Batch) (s : ℕ) (told : Bool) (own home : List Record) (shards : ℕ) (txs : List Compact)
+    (outcomes : List Outcome) (ds : List Bool)
+    → own ≡ J (shard_node K s) → home ≡ J (home_of K b.lane) → shards ≡ K.shards → txs ≡ txs_of home b → outcomes ≡ outcomes_of home b
+    → ds ≡ decisions_in (record_of 3 own b)
+    → count_of 2 own b ≡ 1 → count_of 3 own b ≡ 1 → (IsTrue told ↔ (ds ≡ decisions outcomes (part shards s 0 txs)))
+    → IsTrue told ↔ IsFinishedAt K J b s
 finished_by K J b s told own home shards txs outcomes ds o h n t u d one two same =
     let txs_is : txs ≡ txs_of (J (home_of K b.lane)) b = t ∙ ap (λ l. txs_of l b) h in
     let outcomes_is : outcomes ≡ outcomes_of (J (home_of K b.lane)) b = u ∙ ap (λ l. outcomes_of l b) h in
     let ds_is : ds ≡ decisions_in (record_of 3 (J (shard_node K s)) b) = d ∙ ap (λ l. decisions_in (record_of 3 l b)) o in
-    let all_is : decisions outcomes (part shards s 0 txs) ≡ decisions (outcomes_of (J (home_of K b.lane)) b) (part K.shards s 0 (txs_of (J (home_of K b.lane)) b)) =
+    let all_is : decisions outcomes (part shards s 0 txs)
+    ≡ decisions (outcomes_of (J (home_of K b.lane)) b) (part K.shards s 0 (txs_of (J (home_of K b.lane)) b)) =
     λ i. decisions (outcomes_is i) (part (n i) s 0 (txs_is i)) in (
       λ y. record {
         one_lock = subst (λ l. count_of 2 l b ≡ 1) o one;
@@ -92,7 +109,8 @@ finished_by K J b s told own home shards txs outcomes ds o h n t u d one two sam
     )
 
 -- what holds below a number, by what holds of the one before it
-pub one_more_below : (P : ℕ → Type 0) (n : ℕ) (told : Bool) → 0 < n → P (n - 1) → (IsTrue told ↔ ((s : ℕ) → s < n - 1 → P s)) → IsTrue told ↔ ((s : ℕ) → s < n → P s)
+pub one_more_below : (P : ℕ → Type 0) (n : ℕ) (told : Bool) → 0 < n → P (n - 1) → (IsTrue told ↔ ((s : ℕ) → s < n - 1 → P s))
+    → IsTrue told ↔ ((s : ℕ) → s < n → P s)
 one_more_below P n told some last below = (
   λ y s lt. elim (cases_lt s (n - 1)) [
     | inl less ↦ below.0 y s less
@@ -120,8 +138,16 @@ alike_by K J b told one each = (
         no_other = λ s kind lt none is. other kind (J (shard_node K s)) b ((at s lt).none lt none) is;
       },
   λ alike. each.1 (λ s lt. record {
-    finished = λ in_part. record { one_lock = alike.one_lock s in_part; one_finish = alike.one_finish s in_part; same_decisions = alike.same_decisions s in_part };
-    none = λ lt none. record { lock = alike.no_other s 2 lt none (inl refl); finish = alike.no_other s 3 lt none (inr (inl refl)); forget = alike.no_other s 4 lt none (inr (inr refl)) };
+    finished = λ in_part. record {
+      one_lock = alike.one_lock s in_part;
+      one_finish = alike.one_finish s in_part;
+      same_decisions = alike.same_decisions s in_part;
+    };
+    none = λ lt none. record {
+      lock = alike.no_other s 2 lt none (inl refl);
+      finish = alike.no_other s 3 lt none (inr (inl refl));
+      forget = alike.no_other s 4 lt none (inr (inr refl));
+    };
   }),
 )
   where
@@ -137,7 +163,8 @@ not_alike K J b many = (λ lie. absurd (no_lie lie), λ alike. absurd (many alik
 abbrev Prepares : Record → Batch → Bool
 Prepares r b = (kind_of r == 6) && is_of b r
 
-found : (r : Record) (rest : List Record) (b : Batch) → is_some (record_of 6 (r ∷ rest) b) ≡ true → (Prepares r b ≡ true) ⊎ (is_some (record_of 6 rest b) ≡ true)
+found : (r : Record) (rest : List Record) (b : Batch) → is_some (record_of 6 (r ∷ rest) b) ≡ true
+    → (Prepares r b ≡ true) ⊎ (is_some (record_of 6 rest b) ≡ true)
 found r rest b h = grind (arith, common_steps)
 
 found_first : (r : Record) (rest : List Record) (b : Batch) → Prepares r b ≡ true → is_some (record_of 6 (r ∷ rest) b) ≡ true
@@ -149,7 +176,8 @@ found_later r rest b h = grind (arith, common_steps)
 only : (r : Record) (b : Batch) → is_some (record_of 6 (r ∷ []) b) ≡ true → Prepares r b ≡ true
 only r b h = grind (arith, common_steps)
 
-pub prepared_next : (K : Shape) (J : ℕ → List Record) (n : ℕ) (past : List Record) (r : Record) (rest : List Record) (told : Bool) → past ≡ r ∷ rest → PreparedAlike K J n (r ∷ [])
+pub prepared_next : (K : Shape) (J : ℕ → List Record) (n : ℕ) (past : List Record) (r : Record) (rest : List Record) (told : Bool) → past ≡ r ∷ rest
+    → PreparedAlike K J n (r ∷ [])
     → (IsTrue told ↔ PreparedAlike K J n rest) → IsTrue told ↔ PreparedAlike K J n past
 prepared_next K J n past r rest told e first later = subst (λ l. IsTrue told ↔ PreparedAlike K J n l) (sym e) (
   λ y b home is. elim (found r rest b is) [
@@ -159,8 +187,10 @@ prepared_next K J n past r rest told e first later = subst (λ l. IsTrue told �
   λ all. later.1 (λ b home is. all b home (found_later r rest b is)),
 )
 
-pub not_prepared : (K : Shape) (J : ℕ → List Record) (n : ℕ) (past : List Record) (r : Record) (rest : List Record) → past ≡ r ∷ rest → (PreparedAlike K J n (r ∷ []) → ⊥) → IsTrue false ↔ PreparedAlike K J n past
-not_prepared K J n past r rest e other = subst (λ l. IsTrue false ↔ PreparedAlike K J n l) (sym e) (λ lie. absurd (no_lie lie), λ all. absurd (other (λ b home is. all b home (found_first r rest b (only r b is)))))
+pub not_prepared : (K : Shape) (J : ℕ → List Record) (n : ℕ) (past : List Record) (r : Record) (rest : List Record) → past ≡ r ∷ rest
+    → (PreparedAlike K J n (r ∷ []) → ⊥) → IsTrue false ↔ PreparedAlike K J n past
+not_prepared K J n past r rest e other = subst (λ l. IsTrue false ↔ PreparedAlike K J n l) (sym e)
+    (λ lie. absurd (no_lie lie), λ all. absurd (other (λ b home is. all b home (found_first r rest b (only r b is)))))
 
 -- a record that prepares nothing
 pub prepares_none : (K : Shape) (J : ℕ → List Record) (n : ℕ) (r : Record) → (kind_of r == 6) ≡ false → PreparedAlike K J n (r ∷ [])
@@ -170,7 +200,8 @@ prepares_none K J n r other b home is = absurd (never (kind_of r == 6) (is_of b 
     never p q e h = grind (arith, e, h)
 
 -- and one that prepares a batch
-pub prepares_one : (K : Shape) (J : ℕ → List Record) (n : ℕ) (r : Record) (stamp : ℕ) (own : Batch) (txs : List Compact) (told : Bool) → r ≡ Prepare stamp own txs
+pub prepares_one : (K : Shape) (J : ℕ → List Record) (n : ℕ) (r : Record) (stamp : ℕ) (own : Batch) (txs : List Compact) (told : Bool)
+    → r ≡ Prepare stamp own txs
     → (IsTrue told ↔ (home_of K own.lane ≡ n → IsAlike K J own)) → IsTrue told ↔ PreparedAlike K J n (r ∷ [])
 prepares_one K J n r stamp own txs told e h = subst (λ q. IsTrue told ↔ PreparedAlike K J n (q ∷ [])) (sym e) (
   λ y b home is. let same : own ≡ b = same_batch_is own b (of_own b is) in subst (IsAlike K J) same (h.0 y (ap (λ c. home_of K c.lane) same ∙ home)),
@@ -187,7 +218,8 @@ prepares_one K J n r stamp own txs told e h = subst (λ q. IsTrue told ↔ Prepa
 past_end : (all : List (List Record)) (n : ℕ) → length all ≤ n → journals_in all n ≡ []
 past_end all n le = get_or_past all n [] le
 
-pub all_alike : (K : Shape) (all : List (List Record)) (told : Bool) → (IsTrue told ↔ ((k : ℕ) → k < length all → PreparedAlike K (journals_in all) k (journals_in all k)))
+pub all_alike : (K : Shape) (all : List (List Record)) (told : Bool)
+    → (IsTrue told ↔ ((k : ℕ) → k < length all → PreparedAlike K (journals_in all) k (journals_in all k)))
     → IsTrue told ↔ Alike K (journals_in all)
 all_alike K all told each = (
   λ y b is. each.0 y (home_of K b.lane) (inside b is) b refl is,

@@ -14,7 +14,10 @@ starts_step K m zero h = absurd (omega arith)
 starts_step K m (suc n) h = let e : suc n - 1 ≡ n = omega arith in rw e refl
 
 pub geneses_step : (K : Shape) (m : Minted) (n : ℕ) → 0 < n
-    → geneses K m n ≡ record { node = shard_node K (n - 1); what = Genesis (header_of K m.id (shard_node K (n - 1))) (on_shard K.shards (n - 1) m.hashes) } ∷ geneses K m (n - 1)
+    → geneses K m n ≡ record {
+      node = shard_node K (n - 1);
+      what = Genesis (header_of K m.id (shard_node K (n - 1))) (on_shard K.shards (n - 1) m.hashes);
+    } ∷ geneses K m (n - 1)
 geneses_step K m zero h = absurd (omega arith)
 geneses_step K m (suc n) h = let e : suc n - 1 ≡ n = omega arith in rw e refl
 
@@ -53,17 +56,21 @@ steady_none K m P (row ∷ later) n steady h =
     grind (arith, common_steps, steady_none K m P later n steady.3 h, inside)
 
 -- the same of rows on top of the first ones, and one row more
-pub steady_past : (K : Shape) (m : Minted) (P : Compact → Type 0) (rest first past : List Row) (n : ℕ) → first ≡ first_rows K m → past ≡ rest ++ first → IsSteady K m P rest
+pub steady_past : (K : Shape) (m : Minted) (P : Compact → Type 0) (rest first past : List Row) (n : ℕ) → first ≡ first_rows K m
+    → past ≡ rest ++ first → IsSteady K m P rest
     → K.coordinators + K.shards ≤ n → journal n past ≡ []
 steady_past K m P rest first past n f p steady h = ap (journal n) (p ∙ ap (λ l. rest ++ l) f) ∙ steady_none K m P rest n steady h
 
-pub steady_more : (K : Shape) (m : Minted) (P : Compact → Type 0) (later : List Row) (row : Row) (rest first past : List Row) (told : Bool) → later ≡ row ∷ rest → first ≡ first_rows K m
+pub steady_more : (K : Shape) (m : Minted) (P : Compact → Type 0) (later : List Row) (row : Row) (rest first past : List Row) (told : Bool)
+    → later ≡ row ∷ rest → first ≡ first_rows K m
     → past ≡ rest ++ first → IsSteady K m P rest
-    → (IsTrue told ↔ ((After (header_of K m.id row.node) (journal row.node past) row.what × TxsPass P row.what) × IsCaused K (λ n. journal n past) row.node row.what))
+    → (IsTrue told ↔ ((After (header_of K m.id row.node) (journal row.node past) row.what × TxsPass P row.what)
+    × IsCaused K (λ n. journal n past) row.node row.what))
     → IsTrue told ↔ IsSteady K m P later
 steady_more K m P later row rest first past told e f p steady h =
     let same : past ≡ rest ++ first_rows K m = p ∙ ap (λ l. rest ++ l) f in
     let here : IsTrue told ↔ ((After (header_of K m.id row.node) (journal row.node (rest ++ first_rows K m)) row.what × TxsPass P row.what)
     × IsCaused K (λ n. journal n (rest ++ first_rows K m)) row.node row.what) =
-    subst (λ l. IsTrue told ↔ ((After (header_of K m.id row.node) (journal row.node l) row.what × TxsPass P row.what) × IsCaused K (λ n. journal n l) row.node row.what)) same h in
+    subst (λ l. IsTrue told ↔ ((After (header_of K m.id row.node) (journal row.node l) row.what × TxsPass P row.what)
+    × IsCaused K (λ n. journal n l) row.node row.what)) same h in
     subst (λ l. IsTrue told ↔ IsSteady K m P l) (sym e) (λ t. ((here.0 t).0.0, (here.0 t).1, (here.0 t).0.1, steady), λ s. here.1 ((s.0, s.2), s.1))

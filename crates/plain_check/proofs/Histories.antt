@@ -36,7 +36,8 @@ is_whole K mint J t e later rows h r = (later, to_whole K mint J t e later h, wh
 
 -- and the only one
 pub found_whole : (K : Shape) (mint : List Output) (J : ℕ → List Record) (t : Compact) → t ≡ compact (genesis_tx mint)
-    → (later rows : List Row) → ((l : List Row) → IsHistory K (compact_mint t) J l → AreOnNodes K J → Some later ≡ Some l) → rows ≡ later ++ first_rows K (compact_mint t)
+    → (later rows : List Row) → ((l : List Row) → IsHistory K (compact_mint t) J l → AreOnNodes K J → Some later ≡ Some l)
+    → rows ≡ later ++ first_rows K (compact_mint t)
     → (l : List Row) → IsHistory K (minted mint) J l → AreOnNodes K J → Some rows ≡ Some (history_of K mint l)
 found_whole K mint J t e later rows found r l h on =
     ap Some (whole_rows K mint J t e later rows r ∙ ap (history_of K mint) (same_rows later l (found l (from_whole K mint J t e l h) on)))

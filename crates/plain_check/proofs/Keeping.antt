@@ -11,7 +11,8 @@ use Rattle.plain_check.proofs.Merging.{made_history, made_later}
 
 no_others : (K : Shape) (mint : List Output) (submissions : List FullTx) (J : ℕ → List Record) → KeptJournals K mint submissions J
     → (n : ℕ) → K.coordinators + K.shards ≤ n → J n ≡ []
-no_others K mint submissions J kept n le = sym (kept.history.journals_are n) ∙ steady_none K (minted mint) (IsProperCompact submissions) kept.later n kept.kept le
+no_others K mint submissions J kept n le = sym (kept.history.journals_are n)
+    ∙ steady_none K (minted mint) (IsProperCompact submissions) kept.later n kept.kept le
 
 pub kept_history : (K : Shape) (mint : List Output) (submissions : List FullTx) (J : ℕ → List Record) → KeptJournals K mint submissions J
     → IsHistory K (minted mint) J (later_below J (K.coordinators + K.shards))
@@ -22,6 +23,7 @@ pub kept_rows : (K : Shape) (mint : List Output) (submissions : List FullTx) (J 
 kept_rows K mint submissions J kept =
     subst (IsKept K mint submissions) (made_later K (minted mint) J kept.later kept.history (no_others K mint submissions J kept)) kept.kept
 
-pub kept_by_history : (K : Shape) (mint : List Output) (submissions : List FullTx) (J : ℕ → List Record) (later : List Row) → IsHistory K (minted mint) J later
+pub kept_by_history : (K : Shape) (mint : List Output) (submissions : List FullTx) (J : ℕ → List Record) (later : List Row)
+    → IsHistory K (minted mint) J later
     → IsKept K mint submissions later → KeptJournals K mint submissions J
 kept_by_history K mint submissions J later history kept = record { later = later; history = history; kept = kept }

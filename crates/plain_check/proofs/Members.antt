@@ -40,7 +40,8 @@ In_coins ts c = (t : FullTx) × In t ts × (In c t.inputs ⊎ In c (tx_coins t))
 to_coins : (ts : List FullTx) (c : Coin) (t : FullTx) → In t ts → (In c t.inputs ⊎ In c (tx_coins t)) → In c (coins_in ts)
 to_coins [] c t h i = absurd h
 to_coins (u ∷ ts) c t (inl e) (inl i) = in_left u.inputs (tx_coins u ++ coins_in ts) c (subst (λ v. In c v.inputs) e i)
-to_coins (u ∷ ts) c t (inl e) (inr i) = in_right u.inputs (tx_coins u ++ coins_in ts) c (in_left (tx_coins u) (coins_in ts) c (subst (λ v. In c (tx_coins v)) e i))
+to_coins (u ∷ ts) c t (inl e) (inr i) = in_right u.inputs (tx_coins u ++ coins_in ts) c
+    (in_left (tx_coins u) (coins_in ts) c (subst (λ v. In c (tx_coins v)) e i))
 to_coins (u ∷ ts) c t (inr h) i = in_right u.inputs (tx_coins u ++ coins_in ts) c (in_right (tx_coins u) (coins_in ts) c (to_coins ts c t h i))
 
 from_coins : (ts : List FullTx) (c : Coin) → In c (coins_in ts) → In_coins ts c
@@ -69,7 +70,8 @@ to_named mint txs c h = elim (in_parts (tx_coins (genesis_tx mint)) (coins_in tx
       (found.0, inr (contains_in txs found.0 found.1), coin_of found.0 c found.2)
 ]
 
-of_member : (mint : List Output) (txs : List FullTx) (c : Coin) (t : FullTx) → IsMember mint txs t → (In c t.inputs ⊎ In c (tx_coins t)) → In c (tx_coins (genesis_tx mint) ++ coins_in txs)
+of_member : (mint : List Output) (txs : List FullTx) (c : Coin) (t : FullTx) → IsMember mint txs t → (In c t.inputs ⊎ In c (tx_coins t))
+    → In c (tx_coins (genesis_tx mint) ++ coins_in txs)
 of_member mint txs c t (inl e) (inl i) = absurd (subst (λ v. In c v.inputs) e i)
 of_member mint txs c t (inl e) (inr i) = in_left (tx_coins (genesis_tx mint)) (coins_in txs) c (subst (λ v. In c (tx_coins v)) e i)
 of_member mint txs c t (inr h) i = in_right (tx_coins (genesis_tx mint)) (coins_in txs) c (to_coins txs c t (in_contains txs t h) i)
@@ -80,23 +82,32 @@ from_named mint txs c named = of_member mint txs c named.0 named.1 (of_coin name
 turned : (t u : FullTx) → Agree t u → Agree u t
 turned t u a e = let both = a (sym e) in (sym both.0, sym both.1)
 
-agrees : (mint : List Output) (txs : List FullTx) → AllByRecursion (Agree (genesis_tx mint)) txs → AllByRecursion (λ t. AllByRecursion (Agree t) txs) txs
+agrees : (mint : List Output) (txs : List FullTx) → AllByRecursion (Agree (genesis_tx mint)) txs
+    → AllByRecursion (λ t. AllByRecursion (Agree t) txs) txs
     → (t u : FullTx) → IsMember mint txs t → IsMember mint txs u → Agree t u
-agrees mint txs first all t u (inl e) (inl f) = λ same. (subst (λ v. t.inputs ≡ v.inputs) (sym f) (subst (λ v. v.inputs ≡ (genesis_tx mint).inputs) (sym e) refl), subst (λ v. t.outputs ≡ v.outputs) (sym f) (subst (λ v. v.outputs ≡ (genesis_tx mint).outputs) (sym e) refl))
+agrees mint txs first all t u (inl e) (inl f) = λ same. (
+  subst (λ v. t.inputs ≡ v.inputs) (sym f) (subst (λ v. v.inputs ≡ (genesis_tx mint).inputs) (sym e) refl),
+  subst (λ v. t.outputs ≡ v.outputs) (sym f) (subst (λ v. v.outputs ≡ (genesis_tx mint).outputs) (sym e) refl),
+)
 agrees mint txs first all t u (inl e) (inr h) = subst (λ v. Agree v u) (sym e) (all_has (Agree (genesis_tx mint)) txs u first (in_contains txs u h))
-agrees mint txs first all t u (inr h) (inl f) = subst (λ v. Agree t v) (sym f) (turned (genesis_tx mint) t (all_has (Agree (genesis_tx mint)) txs t first (in_contains txs t h)))
-agrees mint txs first all t u (inr h) (inr g) = all_has (Agree t) txs u (all_has (λ v. AllByRecursion (Agree v) txs) txs t all (in_contains txs t h)) (in_contains txs u g)
+agrees mint txs first all t u (inr h) (inl f) = subst (λ v. Agree t v) (sym f)
+    (turned (genesis_tx mint) t (all_has (Agree (genesis_tx mint)) txs t first (in_contains txs t h)))
+agrees mint txs first all t u (inr h) (inr g) = all_has (Agree t) txs u (all_has (λ v. AllByRecursion (Agree v) txs) txs t all (in_contains txs t h))
+    (in_contains txs u g)
 
 pub no_lie : IsTrue false → ⊥
 no_lie h = search rules
 
 -- the tests together say that all is clean
-pub clean_by : (mint : List Output) (txs : List FullTx) → AllByRecursion (Agree (genesis_tx mint)) txs → AllByRecursion (λ t. AllByRecursion (Agree t) txs) txs
-    → AllByRecursion (λ c. AllByRecursion (CoinsAgree c) (tx_coins (genesis_tx mint) ++ coins_in txs)) (tx_coins (genesis_tx mint) ++ coins_in txs) → Clean mint txs
+pub clean_by : (mint : List Output) (txs : List FullTx) → AllByRecursion (Agree (genesis_tx mint)) txs
+    → AllByRecursion (λ t. AllByRecursion (Agree t) txs) txs
+    → AllByRecursion (λ c. AllByRecursion (CoinsAgree c) (tx_coins (genesis_tx mint) ++ coins_in txs)) (tx_coins (genesis_tx mint) ++ coins_in txs)
+    → Clean mint txs
 clean_by mint txs first all coins = record {
   ids = agrees mint txs first all;
   hashes = λ c d named other. all_has (CoinsAgree c) (tx_coins (genesis_tx mint) ++ coins_in txs) d
-      (all_has (λ x. AllByRecursion (CoinsAgree x) (tx_coins (genesis_tx mint) ++ coins_in txs)) (tx_coins (genesis_tx mint) ++ coins_in txs) c coins (from_named mint txs c named))
+      (all_has (λ x. AllByRecursion (CoinsAgree x) (tx_coins (genesis_tx mint) ++ coins_in txs)) (tx_coins (genesis_tx mint) ++ coins_in txs) c coins
+      (from_named mint txs c named))
       (from_named mint txs d other);
 }
 
@@ -105,10 +116,12 @@ pub first_agrees : (mint : List Output) (txs : List FullTx) → Clean mint txs �
 first_agrees mint txs clean = each_all (Agree (genesis_tx mint)) txs (λ u h. clean.ids (genesis_tx mint) u (inl refl) (inr (contains_in txs u h)))
 
 pub each_agrees : (mint : List Output) (txs : List FullTx) → Clean mint txs → AllByRecursion (λ t. AllByRecursion (Agree t) txs) txs
-each_agrees mint txs clean = each_all (λ t. AllByRecursion (Agree t) txs) txs (λ t h. each_all (Agree t) txs (λ u g. clean.ids t u (inr (contains_in txs t h)) (inr (contains_in txs u g))))
+each_agrees mint txs clean = each_all (λ t. AllByRecursion (Agree t) txs) txs
+    (λ t h. each_all (Agree t) txs (λ u g. clean.ids t u (inr (contains_in txs t h)) (inr (contains_in txs u g))))
 
 pub coins_agree : (mint : List Output) (txs : List FullTx) → Clean mint txs
     → AllByRecursion (λ c. AllByRecursion (CoinsAgree c) (tx_coins (genesis_tx mint) ++ coins_in txs)) (tx_coins (genesis_tx mint) ++ coins_in txs)
 coins_agree mint txs clean =
     each_all (λ c. AllByRecursion (CoinsAgree c) (tx_coins (genesis_tx mint) ++ coins_in txs)) (tx_coins (genesis_tx mint) ++ coins_in txs)
-    (λ c h. each_all (CoinsAgree c) (tx_coins (genesis_tx mint) ++ coins_in txs) (λ d g. clean.hashes c d (to_named mint txs c h) (to_named mint txs d g)))
+    (λ c h. each_all (CoinsAgree c) (tx_coins (genesis_tx mint) ++ coins_in txs)
+    (λ d g. clean.hashes c d (to_named mint txs c h) (to_named mint txs d g)))

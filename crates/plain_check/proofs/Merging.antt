@@ -1,5 +1,6 @@
 -- Journals that have a history have the one that is made of them by putting row after row in its place.
-use Rattle.std.proofs.Common.{◌≡◌, inl, inr, ℕ, zero, suc, ◌+◌, ◌<◌, ◌≤◌, true, false, ◌&&◌, ◌||◌, ◌==◌, nat_lt, if◌then◌else◌, List, [], ◌∷◌, ◌++◌, refl, sym, ap, ◌∙◌, subst, arith}
+use Rattle.std.proofs.Common.{◌≡◌, inl, inr, ℕ, zero, suc, ◌+◌, ◌<◌, ◌≤◌, true, false, ◌&&◌, ◌||◌, ◌==◌, nat_lt, if◌then◌else◌, List, [], ◌∷◌, ◌++◌}
+use Rattle.std.proofs.Common.{refl, sym, ap, ◌∙◌, subst, arith}
 use Rattle.cbdc_model.specs.History.{Minted, goes_above, IsOrdered, first_rows}
 use Rattle.cbdc_model.specs.Records.{Shape, Record, Row, journal, stamp_of}
 use Rattle.cbdc_model.specs.World.{first_record, IsHistory}
@@ -15,7 +16,8 @@ use Rattle.plain_check.specs.Merging.{put_row, put_records, behind_first, later_
 put_is : (row : Row) (rows : List Row) → put_row row rows ≡ insert_row row rows
 put_is row [] = refl
 put_is row (head ∷ later) =
-    elim (goes_above row head) as (λ c. (if c then row ∷ (head ∷ later) else head ∷ put_row row later) ≡ (if c then row ∷ (head ∷ later) else head ∷ insert_row row later)) [
+    elim (goes_above row head) as (λ c. (if c then row ∷ (head ∷ later) else head ∷ put_row row later)
+    ≡ (if c then row ∷ (head ∷ later) else head ∷ insert_row row later)) [
       | true ↦ refl
       | false ↦ ap (λ l. head ∷ l) (put_is row later)
     ]
@@ -24,7 +26,8 @@ put_is row (head ∷ later) =
 row_away : (row : Row) (rows : List Row) (m : ℕ) → (row.node == m) ≡ false → journal m (put_row row rows) ≡ journal m rows
 row_away row rows m e = ap (journal m) (put_is row rows) ∙ insert_away row rows m e
 
-row_at : (row : Row) (rows : List Row) → AllBelow (journal row.node rows) (stamp_of row.what) → journal row.node (put_row row rows) ≡ row.what ∷ journal row.node rows
+row_at : (row : Row) (rows : List Row) → AllBelow (journal row.node rows) (stamp_of row.what)
+    → journal row.node (put_row row rows) ≡ row.what ∷ journal row.node rows
 row_at row rows h = ap (journal row.node) (put_is row rows) ∙ insert_at row rows h
 
 row_ordered : (row : Row) (rows : List Row) → AllBelow (journal row.node rows) (stamp_of row.what) → IsOrdered rows → IsOrdered (put_row row rows)
@@ -58,7 +61,8 @@ merges : (J : ℕ → List Record) (N : ℕ) → ((n : ℕ) → Rising (behind_f
 merges J zero rising = record { ordered = tt; inside = λ m lt. absurd (omega arith); beyond = λ m le. refl }
 merges J (suc n) rising =
     let below : Merges J n = merges J n rising in
-    let here : Own n (behind_first (J n)) (later_below J n) = own n (behind_first (J n)) (later_below J n) (below.beyond n (omega arith)) (rising n) in
+    let here : Own n (behind_first (J n)) (later_below J n) = own n (behind_first (J n)) (later_below J n) (below.beyond n (omega arith)) (rising n)
+    in
     record {
       ordered = here.ordered below.ordered;
       inside = λ m lt. elim (at_node n m) [
@@ -78,12 +82,14 @@ merges J (suc n) rising =
 same_node : (p q u v : ℕ) → (nat_lt q p || ((q == p) && nat_lt v u)) ≡ true → u ≡ v → q < p
 same_node p q u v h e = grind arith
 
-all_below : (a : Row) (rows : List Row) (n : ℕ) → ((r : Row) → In r rows → goes_above a r ≡ true) → a.node ≡ n → AllBelow (journal n rows) (stamp_of a.what)
+all_below : (a : Row) (rows : List Row) (n : ℕ) → ((r : Row) → In r rows → goes_above a r ≡ true) → a.node ≡ n
+    → AllBelow (journal n rows) (stamp_of a.what)
 all_below a [] n h e = tt
 all_below a (b ∷ rows) n h e =
     let rest : AllBelow (journal n rows) (stamp_of a.what) = all_below a rows n (λ r i. h r (inr i)) e in
     elim (at_node b.node n) [
-      | at s ↦ subst (λ J. AllBelow J (stamp_of a.what)) (sym (head_at b rows n s)) (same_node (stamp_of a.what) (stamp_of b.what) a.node b.node (h b (inl refl)) (e ∙ sym s), rest)
+      | at s ↦ subst (λ J. AllBelow J (stamp_of a.what)) (sym (head_at b rows n s))
+          (same_node (stamp_of a.what) (stamp_of b.what) a.node b.node (h b (inl refl)) (e ∙ sym s), rest)
       | away s ↦ subst (λ J. AllBelow J (stamp_of a.what)) (sym (head_away b rows n s)) rest
     ]
 
@@ -114,28 +120,31 @@ module _ (K : Shape) (m : Minted) (J : ℕ → List Record) (later : List Row) (
   parts n = sym (journal-append n later (first_rows K m)) ∙ history.journals_are n
 
   behind_is : (n : ℕ) → behind_first (J n) ≡ journal n later
-  behind_is n = elim (nat_lt n (K.coordinators + K.shards)) as (λ c. nat_lt n (K.coordinators + K.shards) ≡ c → behind_first (J n) ≡ journal n later) [
-    | true ↦ λ e. let lt : n < K.coordinators + K.shards = grind (arith, e) in
-        ap behind_first (sym (parts n) ∙ ap (λ l. journal n later ++ l) (first_is K m n lt)) ∙ behind_last (journal n later) (first_record K m n)
-    | false ↦ λ e. let le : K.coordinators + K.shards ≤ n = grind (arith, e) in
-        ap behind_first (none n le) ∙ sym (none_left (journal n later) (journal n (first_rows K m)) (parts n ∙ none n le))
-  ] refl
+  behind_is n = elim (nat_lt n (K.coordinators + K.shards))
+      as (λ c. nat_lt n (K.coordinators + K.shards) ≡ c → behind_first (J n) ≡ journal n later) [
+        | true ↦ λ e. let lt : n < K.coordinators + K.shards = grind (arith, e) in
+            ap behind_first (sym (parts n) ∙ ap (λ l. journal n later ++ l) (first_is K m n lt)) ∙ behind_last (journal n later) (first_record K m n)
+        | false ↦ λ e. let le : K.coordinators + K.shards ≤ n = grind (arith, e) in
+            ap behind_first (none n le) ∙ sym (none_left (journal n later) (journal n (first_rows K m)) (parts n ∙ none n le))
+      ] refl
 
   made : Merges J (K.coordinators + K.shards)
   made = merges J (K.coordinators + K.shards) (λ n. subst Rising (sym (behind_is n)) (ordered_rising later n history.ordered))
 
   made_is : (n : ℕ) → journal n (later_below J (K.coordinators + K.shards)) ≡ journal n later
-  made_is n = elim (nat_lt n (K.coordinators + K.shards)) as (λ c. nat_lt n (K.coordinators + K.shards) ≡ c → journal n (later_below J (K.coordinators + K.shards)) ≡ journal n later) [
-    | true ↦ λ e. let lt : n < K.coordinators + K.shards = grind (arith, e) in made.inside n lt ∙ behind_is n
-    | false ↦ λ e. let le : K.coordinators + K.shards ≤ n = grind (arith, e) in
-        made.beyond n le ∙ sym (none_left (journal n later) (journal n (first_rows K m)) (parts n ∙ none n le))
-  ] refl
+  made_is n = elim (nat_lt n (K.coordinators + K.shards)) as
+      (λ c. nat_lt n (K.coordinators + K.shards) ≡ c → journal n (later_below J (K.coordinators + K.shards)) ≡ journal n later) [
+        | true ↦ λ e. let lt : n < K.coordinators + K.shards = grind (arith, e) in made.inside n lt ∙ behind_is n
+        | false ↦ λ e. let le : K.coordinators + K.shards ≤ n = grind (arith, e) in
+            made.beyond n le ∙ sym (none_left (journal n later) (journal n (first_rows K m)) (parts n ∙ none n le))
+      ] refl
 
   -- what is made of the journals is their history
   pub made_history : IsHistory K m J (later_below J (K.coordinators + K.shards))
   made_history = record {
     ordered = made.ordered;
-    journals_are = λ n. journal-append n (later_below J (K.coordinators + K.shards)) (first_rows K m) ∙ ap (λ l. l ++ journal n (first_rows K m)) (made_is n) ∙ parts n;
+    journals_are = λ n. journal-append n (later_below J (K.coordinators + K.shards)) (first_rows K m)
+        ∙ ap (λ l. l ++ journal n (first_rows K m)) (made_is n) ∙ parts n;
   }
 
   -- and the one that they have

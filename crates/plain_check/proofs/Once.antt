@@ -39,7 +39,8 @@ distinct_first x ys h rest = (alone x ys h, rest)
 pub unspent_once : (K : Shape) (J : ℕ → List Record) (xs : List Digest) → IsDistinct same_digest (unspent_among K J xs)
 unspent_once K J [] = distinct_none
 unspent_once K J (x ∷ xs) =
-    elim (is_unspent_at K J x && not (has xs x)) as (λ b. (is_unspent_at K J x && not (has xs x)) ≡ b → IsDistinct same_digest (if b then x ∷ unspent_among K J xs else unspent_among K J xs)) [
+    elim (is_unspent_at K J x && not (has xs x)) as
+    (λ b. (is_unspent_at K J x && not (has xs x)) ≡ b → IsDistinct same_digest (if b then x ∷ unspent_among K J xs else unspent_among K J xs)) [
       | true ↦ λ e. distinct_first x (unspent_among K J xs) (not_among K J xs x (grind (arith, common_steps))) (unspent_once K J xs)
       | false ↦ λ e. unspent_once K J xs
     ] refl

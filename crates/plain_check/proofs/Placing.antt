@@ -21,7 +21,8 @@ here past k zero i h = absurd (omega arith)
 here past k (suc n) zero h = let e : k + 0 ≡ k = omega arith in rw e refl
 here past k (suc n) (suc i) h = let e : k + suc i ≡ suc k + i = omega arith in rw e (here past (suc k) n i (omega arith))
 
-pub all_journals : (past : List Row) (count : ℕ) → ((n : ℕ) → count ≤ n → journal n past ≡ []) → journals_in (journals_from past 0 count) ≡ (λ n. journal n past)
+pub all_journals : (past : List Row) (count : ℕ) → ((n : ℕ) → count ≤ n → journal n past ≡ [])
+    → journals_in (journals_from past 0 count) ≡ (λ n. journal n past)
 all_journals past count none = λ i n. at n i
   where
     at : (n : ℕ) → journals_in (journals_from past 0 count) n ≡ journal n past

@@ -35,22 +35,34 @@ pub refused_is : (t : FullTx) (r : Refusal) → IsFirstRefusal t (λ i. Good) r 
 refused_is t r refused = (λ n. absurd (no_lie n), λ p. absurd (not_refused t r p refused.applies))
 
 -- an answer to another question, where there is one
-pub told_of : {E : Type 0} (r : Result Bool E) (A B : Type 0) → ((told : Bool) → (IsTrue told ↔ A) → IsTrue told ↔ B) → IfOk r (λ told. IsTrue told ↔ A) → IfOk r (λ told. IsTrue told ↔ B)
+pub told_of : {E : Type 0} (r : Result Bool E) (A B : Type 0) → ((told : Bool) → (IsTrue told ↔ A) → IsTrue told ↔ B)
+    → IfOk r (λ told. IsTrue told ↔ A) → IfOk r (λ told. IsTrue told ↔ B)
 told_of r A B f h = IfOk-weaker r (λ told. IsTrue told ↔ A) (λ told. IsTrue told ↔ B) f h
 
 -- the first submission has this form
-pub proper_first : (all : List FullTx) (t : FullTx) (rest : List FullTx) (k : Compact) → all ≡ t ∷ rest → IsProper t → compact t ≡ k → IsTrue true ↔ IsProperCompact all k
-proper_first all t rest k e proper form = (λ y. (t, subst (λ l. Contains l t) (sym e) (contains_in (t ∷ rest) t (inl refl)), proper, form), λ p. search rules)
+pub proper_first : (all : List FullTx) (t : FullTx) (rest : List FullTx) (k : Compact) → all ≡ t ∷ rest → IsProper t → compact t ≡ k
+    → IsTrue true ↔ IsProperCompact all k
+proper_first all t rest k e proper form = (
+  λ y. (t, subst (λ l. Contains l t) (sym e) (contains_in (t ∷ rest) t (inl refl)), proper, form),
+  λ p. search rules,
+)
 
 -- it has not: then one behind it
-proper_behind : (t : FullTx) (rest : List FullTx) (k : Compact) (u : FullTx) → (IsProper t → compact t ≡ k → ⊥) → In u (t ∷ rest) → IsProper u → compact u ≡ k → IsProperCompact rest k
+proper_behind : (t : FullTx) (rest : List FullTx) (k : Compact) (u : FullTx) → (IsProper t → compact t ≡ k → ⊥) → In u (t ∷ rest) → IsProper u
+    → compact u ≡ k → IsProperCompact rest k
 proper_behind t rest k u other (inl e) proper form = absurd (other (subst IsProper e proper) (subst (λ v. compact v ≡ k) e form))
 proper_behind t rest k u other (inr h) proper form = (u, contains_in rest u h, proper, form)
 
-pub proper_later : (all : List FullTx) (t : FullTx) (rest : List FullTx) (k : Compact) (told : Bool) → all ≡ t ∷ rest → (IsProper t → compact t ≡ k → ⊥)
+pub proper_later : (all : List FullTx) (t : FullTx) (rest : List FullTx) (k : Compact) (told : Bool) → all ≡ t ∷ rest
+    → (IsProper t → compact t ≡ k → ⊥)
     → (IsTrue told ↔ IsProperCompact rest k) → IsTrue told ↔ IsProperCompact all k
 proper_later all t rest k told e other h = (
-  λ y. let p : IsProperCompact rest k = h.0 y in (p.0, subst (λ l. Contains l p.0) (sym e) (contains_in (t ∷ rest) p.0 (inr (in_contains rest p.0 p.1))), p.2, p.3),
+  λ y. let p : IsProperCompact rest k = h.0 y in (
+    p.0,
+    subst (λ l. Contains l p.0) (sym e) (contains_in (t ∷ rest) p.0 (inr (in_contains rest p.0 p.1))),
+    p.2,
+    p.3,
+  ),
   λ p. h.1 (proper_behind t rest k p.0 other (in_contains (t ∷ rest) p.0 (subst (λ l. Contains l p.0) e p.1)) p.2 p.3),
 )
 
@@ -63,6 +75,7 @@ all_then : {X : Type 0} (P : X → Type 0) (all : List X) (x : X) (rest : List X
 all_then P all x rest told e px h =
     (λ t. subst (All P) (sym e) (All-cons P x rest px (h.0 t)), λ each. h.1 (All-tail P x rest (subst (All P) e each)))
 
-pub forms_more : (submissions : List FullTx) (all : List Compact) (k : Compact) (rest : List Compact) (told : Bool) → all ≡ k ∷ rest → IsProperCompact submissions k
+pub forms_more : (submissions : List FullTx) (all : List Compact) (k : Compact) (rest : List Compact) (told : Bool) → all ≡ k ∷ rest
+    → IsProperCompact submissions k
     → (IsTrue told ↔ All (IsProperCompact submissions) rest) → IsTrue told ↔ All (IsProperCompact submissions) all
 forms_more submissions all k rest told e proper h = all_then (IsProperCompact submissions) all k rest told e proper h

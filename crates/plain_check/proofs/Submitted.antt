@@ -23,7 +23,8 @@ pub fits_refused : (K : Shape) (verdicts : VerdictsOf) (E X : ℕ → List Recor
     → c.judgement ≡ judged.Refused why → Fits K verdicts E X earlier c (Refused why)
 fits_refused K verdicts E X earlier c why is = λ sound tells file place t said. subst (λ j. IsSaid K verdicts file place t j) is said
 
-pub fits_sound : (K : Shape) (verdicts : VerdictsOf) (E X : ℕ → List Record) (earlier : List (List FullTx)) (c : Checked) (lane at before : ℕ) (b : Batch) (o : Outcome)
+pub fits_sound : (K : Shape) (verdicts : VerdictsOf) (E X : ℕ → List Record) (earlier : List (List FullTx)) (c : Checked) (lane at before : ℕ)
+    (b : Batch) (o : Outcome)
     → c.judgement ≡ judged.Sound lane at
     → ((sound : FullTx → Bool) → TellsSound verdicts sound → before ≡ sent_before K sound earlier lane)
     → decided_at K E X lane (before + at) ≡ Some (b, o)
@@ -37,14 +38,16 @@ fits_sound K verdicts E X earlier c lane at before b o is counted there = λ sou
     (s.0, subst (λ l. decided_at K E X l (sent_before K sound earlier l + length (sent_to K sound (take place file) l)) ≡ Some (b, o)) s.1 e)
 
 -- the item that is beside one of the second list
-beside : {A B : Type 0} (R : A → B → Type 0) (xs : List A) (ys : List B) (k : ℕ) (y : B) → AllZip R xs ys → slice_get ys k ≡ Some y → (x : A) × (slice_get xs k ≡ Some x) × R x y
+beside : {A B : Type 0} (R : A → B → Type 0) (xs : List A) (ys : List B) (k : ℕ) (y : B) → AllZip R xs ys → slice_get ys k ≡ Some y
+    → (x : A) × (slice_get xs k ≡ Some x) × R x y
 beside R [] [] k y all h = absurd (none-some y h)
 beside R [] (z ∷ ys) k y all h = absurd all
 beside R (x ∷ xs) [] k y all h = absurd all
 beside R (x ∷ xs) (z ∷ ys) zero y all h = (x, refl, subst (λ v. R x v) (some_is z y h) all.0)
 beside R (x ∷ xs) (z ∷ ys) (suc k) y all h = beside R xs ys k y all.1 h
 
-pub file_told : (K : Shape) (verdicts : VerdictsOf) (E X : ℕ → List Record) (earlier : List (List FullTx)) (file : List FullTx) (cs : List Checked) (rs : List Report)
+pub file_told : (K : Shape) (verdicts : VerdictsOf) (E X : ℕ → List Record) (earlier : List (List FullTx)) (file : List FullTx) (cs : List Checked)
+    (rs : List Report)
     → AreChecked K verdicts file cs → AllFit K verdicts E X earlier cs rs → AreTold K verdicts E X earlier file rs
 file_told K verdicts E X earlier file cs rs checked fit = λ sound tells. record {
   count = AllZip-long (Fits K verdicts E X earlier) cs rs fit ∙ checked.count;
@@ -54,7 +57,8 @@ file_told K verdicts E X earlier file cs rs checked fit = λ sound tells. record
 }
 
 -- the item behind the others, or one of them
-pushed_at : {A : Type 0} (all : List A) (r s : A) (k : ℕ) → slice_get (all ++ r ∷ []) k ≡ Some s → (slice_get all k ≡ Some s) ⊎ ((k ≡ length all) × (r ≡ s))
+pushed_at : {A : Type 0} (all : List A) (r s : A) (k : ℕ) → slice_get (all ++ r ∷ []) k ≡ Some s
+    → (slice_get all k ≡ Some s) ⊎ ((k ≡ length all) × (r ≡ s))
 pushed_at [] r s zero h = inr (refl, some_is r s h)
 pushed_at [] r s (suc k) h = absurd (none-some s h)
 pushed_at (x ∷ all) r s zero h = inl h
@@ -66,9 +70,11 @@ pushed_at (x ∷ all) r s (suc k) h = elim (pushed_at all r s k h) [
 -- the outcomes of the submissions of those files whose reports are there
 abbrev pub EachFileTold : Shape → VerdictsOf → (ℕ → List Record) → (ℕ → List Record) → List (List FullTx) → List (List Report) → Type 0
 EachFileTold K verdicts E X files all =
-    (k : ℕ) (file : List FullTx) (rs : List Report) → slice_get files k ≡ Some file → slice_get all k ≡ Some rs → AreTold K verdicts E X (take k files) file rs
+    (k : ℕ) (file : List FullTx) (rs : List Report) → slice_get files k ≡ Some file → slice_get all k ≡ Some rs
+    → AreTold K verdicts E X (take k files) file rs
 
-pub one_file_more : (K : Shape) (verdicts : VerdictsOf) (E X : ℕ → List Record) (files : List (List FullTx)) (all : List (List Report)) (at : ℕ) (own : List FullTx) (rs : List Report)
+pub one_file_more : (K : Shape) (verdicts : VerdictsOf) (E X : ℕ → List Record) (files : List (List FullTx)) (all : List (List Report)) (at : ℕ)
+    (own : List FullTx) (rs : List Report)
     → length all ≡ at → slice_get files at ≡ Some own → AreTold K verdicts E X (take at files) own rs
     → EachFileTold K verdicts E X files all → EachFileTold K verdicts E X files (all ++ rs ∷ [])
 one_file_more K verdicts E X files all at own rs len here told before = λ k file reports got there. elim (pushed_at all rs reports k there) [
@@ -93,18 +99,21 @@ module _ {E : Type 0} where
   ok_has P (Ok y) x e h = subst P (some_is y x (sym e)) h
   ok_has P (Err z) x e h = absurd (none-some x (sym e))
 
-  pub pushed_is : {T A : Type 0} (r : Result T E) (x : T) (new grown old : List A) → new ≡ (if is_ok r then grown else old) → Some x ≡ result_ok r → new ≡ grown
+  pub pushed_is : {T A : Type 0} (r : Result T E) (x : T) (new grown old : List A) → new ≡ (if is_ok r then grown else old) → Some x ≡ result_ok r
+      → new ≡ grown
   pushed_is (Ok y) x new grown old e h = e
   pushed_is (Err z) x new grown old e h = absurd (none-some x (sym h))
 
   -- one more in front
-  pub if_front : (R : Checked → Report → Type 0) (cs rest : List Checked) (one : Checked) (report : Report) (behind : List Report) (r : Result (List Report) E) (o : Option (List Report))
+  pub if_front : (R : Checked → Report → Type 0) (cs rest : List Checked) (one : Checked) (report : Report) (behind : List Report)
+      (r : Result (List Report) E) (o : Option (List Report))
       → cs ≡ one ∷ rest → R one report → AllZip R rest behind → o ≡ result_ok r → IfOk r (λ l. l ≡ report ∷ behind) → IfSome o (AllZip R cs)
   if_front R cs rest one report behind (Ok all) o is own others e h =
       subst (λ v. IfSome v (AllZip R cs)) (sym e) (subst (λ l. AllZip R l all) (sym is) (subst (λ l. AllZip R (one ∷ rest) l) (sym h) (own, others)))
   if_front R cs rest one report behind (Err z) o is own others e h = subst (λ v. IfSome v (AllZip R cs)) (sym e) tt
 
-pub if_told : (K : Shape) (verdicts : VerdictsOf) (E X : ℕ → List Record) (earlier : List (List FullTx)) (file : List FullTx) (cs : List Checked) (o : Option (List Report))
+pub if_told : (K : Shape) (verdicts : VerdictsOf) (E X : ℕ → List Record) (earlier : List (List FullTx)) (file : List FullTx) (cs : List Checked)
+    (o : Option (List Report))
     → AreChecked K verdicts file cs → IfSome o (AllFit K verdicts E X earlier cs) → IfSome o (AreTold K verdicts E X earlier file)
 if_told K verdicts E X earlier file cs None checked fit = tt
 if_told K verdicts E X earlier file cs (Some rs) checked fit = file_told K verdicts E X earlier file cs rs checked fit

@@ -1,12 +1,14 @@
 -- Journals of nodes, runs that go on, and the clock of calls that are answered.
-use Rattle.std.proofs.Common.{◌≡◌, ℕ, suc, ◌+◌, ◌<◌, ◌≤◌, ◌^◌, max, List, [], ◌∷◌, ◌++◌, map, take, get_or, length, Some, None, refl, sym, subst, arith}
+use Rattle.std.proofs.Common.{◌≡◌, ℕ, suc, ◌+◌, ◌<◌, ◌≤◌, ◌^◌, max, List, [], ◌∷◌, ◌++◌, map, take, get_or, length, Some, None, refl, sym, subst}
+use Rattle.std.proofs.Common.{arith}
 use Rattle.std.proofs.Math.ListN.{get_or-map}
 use Rattle.std.proofs.lemmas.List.{map_more}
 use Rattle.cbdc_model.specs.Records.{Digest, Shape, Header, Record, last_stamp}
 use Rattle.cbdc_model.specs.Next.{next_lock, next_finish, next_forget}
 use Rattle.cbdc_model.specs.Grammar.{IsInGrammar}
 use Rattle.cbdc_model.specs.History.{Minted}
-use Rattle.cbdc_model.specs.World.{Node, World, no_node, journals, ShardCall, Lock_call, Finish_call, Forget_call, appends, record_for, Event, Step, Run}
+use Rattle.cbdc_model.specs.World.{Node, World, no_node, journals, ShardCall, Lock_call, Finish_call, Forget_call, appends, record_for, Event, Step}
+use Rattle.cbdc_model.specs.World.{Run}
 use Rattle.cbdc_model.specs.Next.{Plan, Kept, Append, Refuse}
 use Rattle.plain_check.specs.Journals.{journals_in}
 use Rattle.plain_check.specs.Events.{cause_of, event_in, mint_by, InClock}
@@ -31,7 +33,8 @@ in_clock : (last cause bound : ℕ) → bound < 2 ^ 63 → suc (max last cause) 
 in_clock last cause bound lt le = (omega arith, omega arith)
 
 -- a record that is answered and may stand in a journal has a stamp above that of the call's cause and of the journal's last record
-pub answered_in_clock : (h : Header) (J : List Record) (call : ShardCall) (r : Record) → record_for J call ≡ Some r → IsInGrammar h r → InClock (last_stamp J) (cause_of call)
+pub answered_in_clock : (h : Header) (J : List Record) (call : ShardCall) (r : Record) → record_for J call ≡ Some r → IsInGrammar h r
+    → InClock (last_stamp J) (cause_of call)
 answered_in_clock h J (Lock_call c) r e g =
     let is = appended (next_lock J c.batch c.part c.cause) _ r e in
     let g' = subst (λ q. IsInGrammar h q) (sym is) g in
@@ -51,10 +54,13 @@ run_on K m u v w [] e same step = (w, subst (λ a. Step K m a e w) same step, re
 run_on K m u v w (d ∷ es) e run step = (run.0, run.1, run_on K m run.0 v w es e run.2 step)
 
 -- a loop's turn: the events so far and this one
-pub run_more : (K L : Shape) (i j : Digest) (hashes : List Digest) → K ≡ L → i ≡ j → (u v w : World) (events : List OneEvent) (k : ℕ) (e : OneEvent) → k < length events → e ≡ get_or events k e
-    → Run L (mint_by j hashes) u (map event_in (take k events)) v → Step K (mint_by i hashes) v (event_in e) w → Run L (mint_by j hashes) u (map event_in (take (k + 1) events)) w
+pub run_more : (K L : Shape) (i j : Digest) (hashes : List Digest) → K ≡ L → i ≡ j → (u v w : World) (events : List OneEvent) (k : ℕ) (e : OneEvent)
+    → k < length events → e ≡ get_or events k e
+    → Run L (mint_by j hashes) u (map event_in (take k events)) v → Step K (mint_by i hashes) v (event_in e) w
+    → Run L (mint_by j hashes) u (map event_in (take (k + 1) events)) w
 run_more K L i j hashes shape genesis u v w events k e lt is run step =
-    let step' : Step L (mint_by j hashes) v (event_in e) w = subst (λ K. Step K (mint_by j hashes) v (event_in e) w) shape (subst (λ i. Step K (mint_by i hashes) v (event_in e) w) genesis step) in
+    let step' : Step L (mint_by j hashes) v (event_in e) w =
+    subst (λ K. Step K (mint_by j hashes) v (event_in e) w) shape (subst (λ i. Step K (mint_by i hashes) v (event_in e) w) genesis step) in
     let step'' : Step L (mint_by j hashes) v (event_in (get_or events k e)) w = subst (λ d. Step L (mint_by j hashes) v (event_in d) w) is step' in
     subst (λ es. Run L (mint_by j hashes) u es w) (sym (map_more event_in events k e lt))
     (run_on L (mint_by j hashes) u v w (map event_in (take k events)) (event_in (get_or events k e)) run step'')

@@ -20,7 +20,8 @@ pub record GrowsByNew (of : Batch → Type 0) (old new : List Record) : Type 0 w
 
 -- a lane's Prepares are the older ones, and behind them what it got, in pieces of a batch's size
 abbrev pub PreparesInPieces : Shape → ℕ → List Compact → List Record → List Record → Type 0
-PreparesInPieces K lane sent old new = (pieces : List (List Compact)) × IsCut K.batch sent pieces × (prepared lane new ≡ reverse pieces ++ prepared lane old)
+PreparesInPieces K lane sent old new = (pieces : List (List Compact)) × IsCut K.batch sent pieces
+    × (prepared lane new ≡ reverse pieces ++ prepared lane old)
 
 -- the pieces of n that transactions are cut into stand behind what there was
 abbrev pub AddsPieces : ℕ → List Compact → List (List Compact) → List (List Compact) → Type 0

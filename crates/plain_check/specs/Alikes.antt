@@ -1,6 +1,7 @@
 -- What a batch is at one shard, where it is finished alike on all.
 use Rattle.std.specs.Prelude.{◌≡◌, ℕ, ◌<◌, true, List, is_some}
-use Rattle.cbdc_model.specs.Records.{Shape, Batch, Record, record_of, txs_of, outcomes_of, decisions_in, lock_kind, finish_kind, forget_kind, prepare_kind}
+use Rattle.cbdc_model.specs.Records.{Shape, Batch, Record, record_of, txs_of, outcomes_of, decisions_in, lock_kind, finish_kind, forget_kind}
+use Rattle.cbdc_model.specs.Records.{prepare_kind}
 use Rattle.cbdc_model.specs.Ranges.{home_of, shard_node, part, is_no_part, Concerned}
 use Rattle.cbdc_model.specs.Outcomes.{decisions}
 use Rattle.cbdc_model.specs.World.{count_of, IsAlike}

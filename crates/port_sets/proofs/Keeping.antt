@@ -12,7 +12,8 @@ use Rattle.port_sets.specs.Seated.{seen_at}
 use Rattle.port_sets.proofs.Lifting.{still}
 
 -- it is the node that it was, as its seat saw it and sees it
-pub still_seen : (first s t : Sight) (h g : Hand) → Called first h s t g → (old new : Sight) → old ≡ viewed first h → new ≡ viewed first g → IsStillNode old new
+pub still_seen : (first s t : Sight) (h g : Hand) → Called first h s t g → (old new : Sight) → old ≡ viewed first h → new ≡ viewed first g
+    → IsStillNode old new
 still_seen first s t h g called old new o n =
     subst (λ x. IsStillNode x new) (sym o) (subst (λ y. IsStillNode (viewed first h) y) (sym n) (still first s t h g called))
 

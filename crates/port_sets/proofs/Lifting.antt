@@ -1,5 +1,6 @@
 -- What a call through a seat tells, by what the node's step gave.
-use Rattle.std.proofs.Common.{◌≡◌, inl, inr, ℕ, ◌≤◌, Bool, true, false, List, [], ◌∷◌, ◌++◌, length, Option, Some, None, Result, Ok, Err, refl, sym, ap, ◌∙◌, subst, arith}
+use Rattle.std.proofs.Common.{◌≡◌, inl, inr, ℕ, ◌≤◌, Bool, true, false, List, [], ◌∷◌, ◌++◌, length, Option, Some, None, Result, Ok, Err, refl, sym}
+use Rattle.std.proofs.Common.{ap, ◌∙◌, subst, arith}
 use Rattle.cbdc_types.specs.declared.calls.NodeFault.{NodeFault}
 use Rattle.cbdc_types.specs.declared.calls.NodeFault.TheVariants.{Broken, Refused as Refuses, ClockEnd, Full, DiskFault, Memory}
 use Rattle.cbdc_model.specs.Records.{Header, Record, last_stamp}
@@ -110,7 +111,8 @@ module _ (first s t : Sight) (h g : Hand) (called : Called first h s t g) where
     rose = risen_more h.faults s.faults t.faults g.faults called.finds.before called.faults k.rose;
   }
 
-  module _ {A : Type 0} (memory : Bool) (due : Due A) (found : List Record) (is : found ≡ s.seen) (quiet : (a : A) (r : Record) → due ≡ Writes a r → s.flight ≡ None) where
+  module _ {A : Type 0} (memory : Bool) (due : Due A) (found : List Record) (is : found ≡ s.seen)
+      (quiet : (a : A) (r : Record) → due ≡ Writes a r → s.flight ≡ None) where
     pub meets : (result : Result A NodeFault) → Meets memory due s t found result → Meets memory due old new found result
     meets (Ok a) (inl (e, k)) = inl (e, stays found is k)
     meets (Ok a) (inr (r, e, k)) = inr (r, e, appends found r is k)
@@ -126,24 +128,29 @@ module _ (first s t : Sight) (h g : Hand) (called : Called first h s t g) where
   none_left (Some r) is none = absurd (some_none r s.flight (called.finds.stuck r is).0 none)
 
   -- what the lane is told
-  pub lifted : {A : Type 0} (lane : ℕ) (memory : Bool) (due : Header → ℕ → Option ℕ → List Record → Due A) (result : Result A NodeFault) → h.lane ≡ lane → first.opened ≤ h.faults
+  pub lifted : {A : Type 0} (lane : ℕ) (memory : Bool) (due : Header → ℕ → Option ℕ → List Record → Due A) (result : Result A NodeFault)
+      → h.lane ≡ lane → first.opened ≤ h.faults
       → ((b : Option ℕ) (J : List Record) (a : A) (r : Record) → due s.header s.capacity b J ≡ Writes a r → b ≡ None)
-      → IsJournal s.header s.seen → Told true lane memory (due s.header s.capacity) s t result → Told false lane memory (due first.header first.capacity) old new result
+      → IsJournal s.header s.seen → Told true lane memory (due s.header s.capacity) s t result
+      → Told false lane memory (due first.header first.capacity) old new result
   lifted lane memory due result mine since_opened whole journal told =
       let is : told.found ≡ s.seen = told.finds.is ∙ ap (λ xs. xs ++ s.seen) (none_between lane told.finds.more told.finds.between) in record {
         found = told.found;
         broken = told.broken;
         finds = subst (λ l. Found false l h.seen told.found) mine (subst (λ xs. Found false h.lane h.seen xs) (sym is) found_of);
-        since = subst (λ n. IsBrokenSince n g.faults told.broken) called.found.opened (subst (λ n. IsBrokenSince s.opened n told.broken) (sym called.faults) told.since);
+        since = subst (λ n. IsBrokenSince n g.faults told.broken) called.found.opened
+            (subst (λ n. IsBrokenSince s.opened n told.broken) (sym called.faults) told.since);
         whole = λ b. none_left h.left refl (told.whole b);
         unbroken = λ alone. absurd (let z : false ≡ true = alone in cc);
         since_opened = since_opened;
         order = told.order;
         later = subst (λ xs. last_stamp h.seen ≤ last_stamp xs) (sym is)
-            (subst (λ xs. last_stamp h.seen ≤ last_stamp xs) (sym called.finds.list) (ends_rise s.header called.finds.others h.seen (subst (λ xs. IsJournal s.header xs) called.finds.list journal)));
+            (subst (λ xs. last_stamp h.seen ≤ last_stamp xs) (sym called.finds.list)
+            (ends_rise s.header called.finds.others h.seen (subst (λ xs. IsJournal s.header xs) called.finds.list journal)));
         meets = subst (λ k. Meets memory (due k first.capacity told.broken told.found) old new told.found result) called.found.header
             (subst (λ n. Meets memory (due s.header n told.broken told.found) old new told.found result) called.found.capacity
-            (meets memory (due s.header s.capacity told.broken told.found) told.found is (λ a r e. told.whole (whole told.broken told.found a r e)) result told.meets));
+            (meets memory (due s.header s.capacity told.broken told.found) told.found is (λ a r e. told.whole (whole told.broken told.found a r e))
+            result told.meets));
       }
 
 pub writes_whole : {A : Type 0} (broken : Option ℕ) (due : Due A) (a : A) (r : Record) → unless_broken broken due ≡ Writes a r → broken ≡ None

@@ -9,7 +9,8 @@ use Rattle.node_lock.specs.declared.views.Hand.{Hand}
 use Rattle.node_lock.specs.Tickets.{Looked}
 use Rattle.port_sets.specs.Looks.{lists_all, HasListed}
 
-pub listed_of : {E : Type 0} (first : Sight) (h g : Hand) (s : Sight) (all : Result (Vec Record) E) → Looked first h s g → lists_all s all → HasListed h g all
+pub listed_of : {E : Type 0} (first : Sight) (h g : Hand) (s : Sight) (all : Result (Vec Record) E) → Looked first h s g → lists_all s all
+    → HasListed h g all
 listed_of first h g s all l told =
     let seen : g.seen ≡ s.seen = ap (λ k. k.seen) l.now in
     record {

@@ -12,8 +12,11 @@ not_broken : {A : Type 0} (broken : Option ℕ) (due : Due A) (a : A) (r : Recor
 not_broken None due a r e = e
 not_broken (Some since) due a r e = cc
 
-module _ {A : Type 0} (lane : ℕ) (memory : Bool) (by : List Record → Due A) (s t : Sight) (mine : (a : A) (r : Record) → by s.seen ≡ Writes a r → is_in_lane lane r ≡ true) where
-  moved : IsSameNode s t → (change : ((t.seen ≡ s.seen) × (t.flight ≡ s.flight)) ⊎ (((r : Record) × (is_in_lane lane r ≡ true) × (s.flight ≡ None) × (t.flight ≡ None) × (t.seen ≡ r ∷ s.seen)) ⊎ ((r : Record) × (is_in_lane lane r ≡ true) × (s.flight ≡ None) × (t.flight ≡ Some r) × (t.seen ≡ s.seen)))) → Moves lane s t
+module _ {A : Type 0} (lane : ℕ) (memory : Bool) (by : List Record → Due A) (s t : Sight)
+    (mine : (a : A) (r : Record) → by s.seen ≡ Writes a r → is_in_lane lane r ≡ true) where
+  moved : IsSameNode s t → (change : ((t.seen ≡ s.seen) × (t.flight ≡ s.flight))
+      ⊎ (((r : Record) × (is_in_lane lane r ≡ true) × (s.flight ≡ None) × (t.flight ≡ None) × (t.seen ≡ r ∷ s.seen))
+      ⊎ ((r : Record) × (is_in_lane lane r ≡ true) × (s.flight ≡ None) × (t.flight ≡ Some r) × (t.seen ≡ s.seen)))) → Moves lane s t
   moved n change = record { faults = n.later; same = record { header = n.header; opened = n.opened; capacity = n.capacity }; change = change }
 
   module _ (found : List Record) (is : found ≡ s.seen) (broken : Option ℕ) (whole : broken ≡ None → s.flight ≡ None) where
@@ -28,7 +31,8 @@ module _ {A : Type 0} (lane : ℕ) (memory : Bool) (by : List Record → Due A) 
     met (Ok a) (inr (r, e, k)) =
         let none = whole (writes_whole broken (by found) a r e) in
         moved k.node (inr (inl (r, of_lane a r e, none, k.flight ∙ none, k.seen ∙ ap (λ xs. r ∷ xs) is)))
-    met (Err DiskFault) (a, r, e, k) = moved k.node (inr (inr (r, of_lane a r e, whole (writes_whole broken (by found) a r e), k.flight, k.seen ∙ is)))
+    met (Err DiskFault) (a, r, e, k) = moved k.node
+        (inr (inr (r, of_lane a r e, whole (writes_whole broken (by found) a r e), k.flight, k.seen ∙ is)))
     met (Err Memory) (e, k) = stays k
     met (Err (Broken since)) (e, k) = stays k
     met (Err (Refuses why)) (e, k) = stays k
@@ -38,4 +42,5 @@ module _ {A : Type 0} (lane : ℕ) (memory : Bool) (by : List Record → Due A) 
   -- so it is one of the three steps of a node under a lock
   pub moves : (result : Result A NodeFault) → Told true lane memory (λ broken J. unless_broken broken (by J)) s t result → Moves lane s t
   moves result told =
-      met told.found (told.finds.is ∙ ap (λ xs. xs ++ s.seen) (none_between lane told.finds.more told.finds.between)) told.broken told.whole result told.meets
+      met told.found (told.finds.is ∙ ap (λ xs. xs ++ s.seen) (none_between lane told.finds.more told.finds.between)) told.broken told.whole result
+      told.meets

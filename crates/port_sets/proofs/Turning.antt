@@ -1,5 +1,6 @@
 -- Lists turned over item by item, from the last to the first.
-use Rattle.std.proofs.Common.{◌≡◌, ℕ, ◌+◌, ◌<◌, ◌≤◌, List, [], ◌∷◌, ◌++◌, length, map, reverse, append_assoc, append-nil, length-append, sym, ap, ◌∙◌, arith}
+use Rattle.std.proofs.Common.{◌≡◌, ℕ, ◌+◌, ◌<◌, ◌≤◌, List, [], ◌∷◌, ◌++◌, length, map, reverse, append_assoc, append-nil, length-append, sym, ap, ◌∙◌}
+use Rattle.std.proofs.Common.{arith}
 use Rattle.std.proofs.lemmas.List.{reverse-append}
 
 last_first : {A : Type 0} (xs ys : List A) (x : A) → ys ≡ xs ++ x ∷ [] → reverse ys ≡ x ∷ reverse xs
@@ -33,7 +34,8 @@ module _ {A B : Type 0} where
   pub sharing : (f : B → A) (xs : List A) (ys : List B) → ys ≡ [] → Sharing f xs xs ys
   sharing f xs ys e = record { done = []; all_is = sym (append-nil xs); made = ap (λ zs. map f (reverse zs)) e }
 
-  pub shares_on : (f : B → A) (all xs xs' : List A) (ys ys' : List B) (x : A) (y : B) → Sharing f all xs ys → xs ≡ xs' ++ x ∷ [] → ys' ≡ ys ++ y ∷ [] → f y ≡ x → Sharing f all xs' ys'
+  pub shares_on : (f : B → A) (all xs xs' : List A) (ys ys' : List B) (x : A) (y : B) → Sharing f all xs ys → xs ≡ xs' ++ x ∷ [] → ys' ≡ ys ++ y ∷ []
+      → f y ≡ x → Sharing f all xs' ys'
   shares_on f all xs xs' ys ys' x y k e h i = record {
     done = x ∷ k.done;
     all_is = k.all_is ∙ (ap (λ zs. zs ++ k.done) e ∙ append_assoc xs' (x ∷ []) k.done);
@@ -52,7 +54,8 @@ module _ {A B : Type 0} where
   pub owning : (f : B → A) (ys : List B) (xs : List A) → xs ≡ [] → Owning f ys ys xs
   owning f ys xs e = record { done = []; all_is = sym (append-nil ys); made = ap reverse e }
 
-  pub owns_on : (f : B → A) (all ys ys' : List B) (xs xs' : List A) (x : A) (y : B) → Owning f all ys xs → ys ≡ ys' ++ y ∷ [] → xs' ≡ xs ++ x ∷ [] → f y ≡ x → Owning f all ys' xs'
+  pub owns_on : (f : B → A) (all ys ys' : List B) (xs xs' : List A) (x : A) (y : B) → Owning f all ys xs → ys ≡ ys' ++ y ∷ [] → xs' ≡ xs ++ x ∷ []
+      → f y ≡ x → Owning f all ys' xs'
   owns_on f all ys ys' xs xs' x y k e h i = record {
     done = y ∷ k.done;
     all_is = k.all_is ∙ (ap (λ zs. zs ++ k.done) e ∙ append_assoc ys' (y ∷ []) k.done);

@@ -20,7 +20,8 @@ pub all_may : (lane : ℕ) (xs : List Record) → of_lane lane xs ≡ [] → All
 all_may lane [] e = tt
 all_may lane (x ∷ xs) e = go (is_in_lane lane x) refl e (all_may lane xs)
   where
-    go : (b : Bool) → is_in_lane lane x ≡ b → (if b then x ∷ of_lane lane xs else of_lane lane xs) ≡ [] → (of_lane lane xs ≡ [] → AllMay false lane xs) → (may_come false lane x ≡ true) × AllMay false lane xs
+    go : (b : Bool) → is_in_lane lane x ≡ b → (if b then x ∷ of_lane lane xs else of_lane lane xs) ≡ []
+        → (of_lane lane xs ≡ [] → AllMay false lane xs) → (may_come false lane x ≡ true) × AllMay false lane xs
     go true is e f = absurd (let z : x ∷ of_lane lane xs ≡ [] = e in cc)
     go false is e f = (ap (λ b. not false && not b) is, f e)
 
@@ -31,7 +32,8 @@ module _ (lane : ℕ) (old found : List Record) (f : Found false lane old found)
 
   -- the transactions of the lane's open batch are as before
   pub same_txs : txs_at found lane ≡ txs_at old lane
-  same_txs = ap txs_in (finds_record false 6 (open_batch found lane) old found f) ∙ ap (λ s. txs_of old (record { lane = lane; number = s.number })) same_slot
+  same_txs = ap txs_in (finds_record false 6 (open_batch found lane) old found f)
+      ∙ ap (λ s. txs_of old (record { lane = lane; number = s.number })) same_slot
 
   -- the lane's phase is as before
   pub same_phase : (p : Phase) → (slot old lane).phase ≡ p → (slot found lane).phase ≡ p
@@ -42,10 +44,15 @@ found_by : (lane : ℕ) (s t : Sight) (more : List Record) → t.seen ≡ more +
 found_by lane s t more is other = record { more = more; is = is; between = all_may lane more other }
 
 -- a call that may be made at a coordinator may be made still behind records of other lanes; cited where a coordinator is made a node of a lock
-pub still_asked : (c : LogCall) (s t : Sight) (more : List Record) → t.header ≡ s.header → t.seen ≡ more ++ s.seen → of_lane (log_call_lane c) more ≡ [] → log_may_be_asked c s → log_may_be_asked c t
+pub still_asked : (c : LogCall) (s t : Sight) (more : List Record) → t.header ≡ s.header → t.seen ≡ more ++ s.seen
+    → of_lane (log_call_lane c) more ≡ [] → log_may_be_asked c s → log_may_be_asked c t
 still_asked (Prepare lane txs) s t more header seen other may =
-    let f = found_by lane s t more seen other in
-    (subst (λ h. IsLane h lane) (sym header) may.0, same_phase lane s.seen t.seen f Idle may.1, subst (λ h. HasSize h.shape txs.now) (sym header) may.2, may.3)
+    let f = found_by lane s t more seen other in (
+      subst (λ h. IsLane h lane) (sym header) may.0,
+      same_phase lane s.seen t.seen f Idle may.1,
+      subst (λ h. HasSize h.shape txs.now) (sym header) may.2,
+      may.3,
+    )
 still_asked (Decide lane replies out) s t more header seen other may =
     let f = found_by lane s t more seen other in (
       subst (λ h. IsLane h lane) (sym header) may.0,
@@ -54,6 +61,14 @@ still_asked (Decide lane replies out) s t more header seen other may =
       subst (λ xs. length xs ≤ vec_capacity out.now) (sym (same_txs lane s.seen t.seen f)) may.3,
     )
 still_asked (Discard lane cause) s t more header seen other may =
-    let f = found_by lane s t more seen other in (subst (λ h. IsLane h lane) (sym header) may.0, same_phase lane s.seen t.seen f InCommit may.1, may.2)
+    let f = found_by lane s t more seen other in (
+      subst (λ h. IsLane h lane) (sym header) may.0,
+      same_phase lane s.seen t.seen f InCommit may.1,
+      may.2,
+    )
 still_asked (Done lane cause) s t more header seen other may =
-    let f = found_by lane s t more seen other in (subst (λ h. IsLane h lane) (sym header) may.0, same_phase lane s.seen t.seen f InDiscard may.1, may.2)
+    let f = found_by lane s t more seen other in (
+      subst (λ h. IsLane h lane) (sym header) may.0,
+      same_phase lane s.seen t.seen f InDiscard may.1,
+      may.2,
+    )

@@ -31,8 +31,10 @@ txs_at J lane = txs_of J (open_batch J lane)
 
 -- a call may be made at a coordinator of which this is seen
 abbrev pub log_may_be_asked : LogCall → Sight → Type 0
-log_may_be_asked (Prepare lane txs) s = IsLane s.header lane × ((slot s.seen lane).phase ≡ Idle) × HasSize s.header.shape txs.now × All IsCompact txs.now
-log_may_be_asked (Decide lane replies out) s = IsLane s.header lane × ((slot s.seen lane).phase ≡ InPrepare) × AreReplies s.header.shape replies.now × (length (txs_at s.seen lane) ≤ vec_capacity out.now)
+log_may_be_asked (Prepare lane txs) s = IsLane s.header lane × ((slot s.seen lane).phase ≡ Idle) × HasSize s.header.shape txs.now
+    × All IsCompact txs.now
+log_may_be_asked (Decide lane replies out) s = IsLane s.header lane × ((slot s.seen lane).phase ≡ InPrepare) × AreReplies s.header.shape replies.now
+    × (length (txs_at s.seen lane) ≤ vec_capacity out.now)
 log_may_be_asked (Discard lane cause) s = IsLane s.header lane × ((slot s.seen lane).phase ≡ InCommit) × IsStamp cause
 log_may_be_asked (Done lane cause) s = IsLane s.header lane × ((slot s.seen lane).phase ≡ InDiscard) × IsStamp cause
 
@@ -74,7 +76,8 @@ pub record Decides (lane : ℕ) (replies : List ShardReplies) (s t : Sight) (os 
 abbrev pub log_gives : Sight → LogCall → Sight → LogCall → LogReply → Type 0
 log_gives s (Prepare lane txs) t c (Prepared r) = NodeGives lane true (prepare_owed lane txs.now) (good_prepare lane txs.now) s t r
 log_gives s (Prepare lane txs) t c (Stamped r) = ⊥
-log_gives s (Decide lane replies out) t (Decide l q new) (Stamped r) = Decides lane replies.now s t new.now.items r × (new.ghost_name ≡ out.ghost_name)
+log_gives s (Decide lane replies out) t (Decide l q new) (Stamped r) = Decides lane replies.now s t new.now.items r
+    × (new.ghost_name ≡ out.ghost_name)
 log_gives s (Decide lane replies out) t other r = ⊥
 log_gives s (Discard lane cause) t c (Stamped r) = NodeGives lane false (discard_owed lane cause) (good_discard lane) s t r
 log_gives s (Discard lane cause) t c (Prepared r) = ⊥

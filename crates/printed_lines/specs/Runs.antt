@@ -27,7 +27,8 @@ turn K sound earlier file place = sent_before K sound earlier (lane_at K place) 
 
 -- the result of the submission t at a place of a file behind earlier ones: it was refused for the first reason that applies; or it is sound, and
 -- stands at its turn among the transactions of its lane's new Prepares, with its batch and outcome
-abbrev pub IsReport : Shape → VerdictsOf → (FullTx → Bool) → (ℕ → List Record) → (ℕ → List Record) → List (List FullTx) → List FullTx → ℕ → FullTx → Report → Type 0
+abbrev pub IsReport : Shape → VerdictsOf → (FullTx → Bool) → (ℕ → List Record) → (ℕ → List Record) → List (List FullTx) → List FullTx → ℕ → FullTx
+    → Report → Type 0
 IsReport K verdicts sound E X earlier file place t (Refused why) = IsFirstRefusal t (verdicts (tx_id t)) why
 IsReport K verdicts sound E X earlier file place t (Decided batch outcome) =
     IsSoundTx t (verdicts (tx_id t)) × (decided_at K E X (lane_at K place) (turn K sound earlier file place) ≡ Some (batch, outcome))
@@ -44,18 +45,21 @@ report_line file place id (Refused why) = refused_line file place id why
 report_line file place id (Decided batch outcome) = decided_line file place id batch outcome
 
 -- the line of the submission t at a place of a file behind earlier ones
-abbrev pub IsSubmissionLine : Shape → VerdictsOf → (FullTx → Bool) → (ℕ → List Record) → (ℕ → List Record) → List (List FullTx) → List FullTx → ℕ → FullTx → Text → Type 0
+abbrev pub IsSubmissionLine : Shape → VerdictsOf → (FullTx → Bool) → (ℕ → List Record) → (ℕ → List Record) → List (List FullTx) → List FullTx → ℕ
+    → FullTx → Text → Type 0
 IsSubmissionLine K verdicts sound E X earlier file place t text =
     (r : Report) × IsReport K verdicts sound E X earlier file place t r × (text ≡ report_line (suc (length earlier)) place (tx_id t) r)
 
 -- the result of each submission of a file
-pub record AreReports (K : Shape) (verdicts : VerdictsOf) (sound : FullTx → Bool) (E X : ℕ → List Record) (earlier : List (List FullTx)) (file : List FullTx) (reports : List Report) : Type 0 where
+pub record AreReports (K : Shape) (verdicts : VerdictsOf) (sound : FullTx → Bool) (E X : ℕ → List Record) (earlier : List (List FullTx))
+    (file : List FullTx) (reports : List Report) : Type 0 where
   pub count : length reports ≡ length file
   pub each : (place : ℕ) (t : FullTx) (r : Report) → slice_get file place ≡ Some t → slice_get reports place ≡ Some r
       → IsReport K verdicts sound E X earlier file place t r
 
 -- and of each file
-pub record AreAllReports (K : Shape) (verdicts : VerdictsOf) (sound : FullTx → Bool) (E X : ℕ → List Record) (files : List (List FullTx)) (all : List (List Report)) : Type 0 where
+pub record AreAllReports (K : Shape) (verdicts : VerdictsOf) (sound : FullTx → Bool) (E X : ℕ → List Record) (files : List (List FullTx))
+    (all : List (List Report)) : Type 0 where
   pub count : length all ≡ length files
   pub each : (k : ℕ) (file : List FullTx) (reports : List Report) → slice_get files k ≡ Some file → slice_get all k ≡ Some reports
       → AreReports K verdicts sound E X (take k files) file reports
@@ -98,7 +102,8 @@ run_lines K E X files all unspent =
     ++ summary_text (resumed_count K E) (new_batches K E X) (count_in is_confirmed all) (count_in is_rejected all) (count_in is_refused all) unspent
 
 -- the text of a run of files from journals E to journals X, by a test that tells sound submissions
-pub record IsRunText (K : Shape) (verdicts : VerdictsOf) (sound : FullTx → Bool) (files : List (List FullTx)) (E X : ℕ → List Record) (text : Text) : Type 0 where
+pub record IsRunText (K : Shape) (verdicts : VerdictsOf) (sound : FullTx → Bool) (files : List (List FullTx)) (E X : ℕ → List Record) (text : Text) :
+    Type 0 where
   pub all : List (List Report)
   pub are : AreAllReports K verdicts sound E X files all
   pub unspent : ℕ

@@ -38,18 +38,24 @@ module _ (K : Shape) (m : Minted) where
   steady_after P (row ∷ later) kept = (kept.0, steady_after P later kept.3)
 
 -- behind the nodes there is no journal
-pub kept_beyond : (K : Shape) (mint : List Output) (submissions : List FullTx) (E : ℕ → List Record) → KeptJournals K mint submissions E → (n : ℕ) → node_count K ≤ n → E n ≡ []
+pub kept_beyond : (K : Shape) (mint : List Output) (submissions : List FullTx) (E : ℕ → List Record) → KeptJournals K mint submissions E → (n : ℕ)
+    → node_count K ≤ n → E n ≡ []
 kept_beyond K mint submissions E kept n past =
-    sym (kept.history.journals_are n) ∙ none_beyond K (minted mint) (IsProperCompact submissions) kept.later (steady K (minted mint) (IsProperCompact submissions) kept.later kept.kept) n past
+    sym (kept.history.journals_are n) ∙ none_beyond K (minted mint) (IsProperCompact submissions) kept.later
+    (steady K (minted mint) (IsProperCompact submissions) kept.later kept.kept) n past
 
-module _ {D : Type 0} (device : Ghosts D) (held : ℕ → Option D) (K : Shape) (mint : List Output) (submissions : List FullTx) (E : ℕ → List Record) (ready : ShowsKept device held K mint submissions E) where
+module _ {D : Type 0} (device : Ghosts D) (held : ℕ → Option D) (K : Shape) (mint : List Output) (submissions : List FullTx) (E : ℕ → List Record)
+    (ready : ShowsKept device held K mint submissions E) where
   -- rows that the disks tell have these journals
   module _ (shape : Shape) (genesis : Digest) (rows : List Row) (told : IsToldHistory device held shape genesis rows) where
-    pub told_at : (n : ℕ) → n < node_count K → n < node_count shape → (header_of shape genesis n ≡ header_of K (genesis_id mint) n) × (journal n (reverse rows) ≡ E n)
-    told_at n inside there = opens_to device held K mint submissions E ready n (header_of shape genesis n) (journal n (reverse rows)) inside (told.opened n there)
+    pub told_at : (n : ℕ) → n < node_count K → n < node_count shape
+        → (header_of shape genesis n ≡ header_of K (genesis_id mint) n) × (journal n (reverse rows) ≡ E n)
+    told_at n inside there = opens_to device held K mint submissions E ready n (header_of shape genesis n) (journal n (reverse rows)) inside
+        (told.opened n there)
 
     pub told_header : header_of shape genesis 0 ≡ header_of K (genesis_id mint) 0
-    told_header = let own = ready.limits in let theirs = told.limits in (told_at 0 (omega (arith, own.some_coordinator)) (omega (arith, theirs.some_coordinator))).0
+    told_header = let own = ready.limits in let theirs = told.limits in
+        (told_at 0 (omega (arith, own.some_coordinator)) (omega (arith, theirs.some_coordinator))).0
 
     pub told_shape : shape ≡ K
     told_shape = ap (λ (h : Header). h.shape) told_header
@@ -57,16 +63,19 @@ module _ {D : Type 0} (device : Ghosts D) (held : ℕ → Option D) (K : Shape) 
     pub told_journals : (n : ℕ) → journal n (reverse rows) ≡ E n
     told_journals n = elim (cases_lt n (node_count K)) [
       | inl inside ↦ (told_at n inside (subst (λ (s : Shape). n < node_count s) (sym told_shape) inside)).1
-      | inr past ↦ told.others n (subst (λ (s : Shape). node_count s ≤ n) (sym told_shape) past) ∙ sym (kept_beyond K mint submissions E ready.kept n past)
+      | inr past ↦ told.others n (subst (λ (s : Shape). node_count s ≤ n) (sym told_shape) past)
+          ∙ sym (kept_beyond K mint submissions E ready.kept n past)
     ]
 
     pub told_rows : reverse rows ≡ history_of K mint ready.kept.later
     told_rows =
         let kept : KeptJournals K mint submissions E = ready.kept in
-        ordered_rows K mint E kept.later (reverse rows) (steady_after K (minted mint) (IsProperCompact submissions) kept.later kept.kept) kept.history told.ordered told_journals
+        ordered_rows K mint E kept.later (reverse rows) (steady_after K (minted mint) (IsProperCompact submissions) kept.later kept.kept)
+        kept.history told.ordered told_journals
 
     pub told_caused : AllCaused K (reverse rows)
-    told_caused = let kept : KeptJournals K mint submissions E = ready.kept in subst (AllCaused K) (sym told_rows) (steady_caused K (minted mint) (IsProperCompact submissions) kept.later kept.kept)
+    told_caused = let kept : KeptJournals K mint submissions E = ready.kept in
+        subst (AllCaused K) (sym told_rows) (steady_caused K (minted mint) (IsProperCompact submissions) kept.later kept.kept)
 
   pub unsound_none : (answer : Answer) → IsUnsound device held answer → ⊥
   unsound_none answer unsound =
@@ -75,4 +84,5 @@ module _ {D : Type 0} (device : Ghosts D) (held : ℕ → Option D) (K : Shape) 
       = told_history device held unsound.header unsound.logs unsound.shards unsound.opened unsound.uncaused.rows unsound.uncaused.merged in
       let shape : unsound.header.shape ≡ K = told_shape unsound.header.shape unsound.header.genesis unsound.uncaused.rows told in
       let all : AllCaused K (reverse unsound.uncaused.rows) = told_caused unsound.header.shape unsound.header.genesis unsound.uncaused.rows told in
-      none_uncaused unsound.header.shape unsound.uncaused.rows unsound.place (subst (λ (s : Shape). AllCaused s (reverse unsound.uncaused.rows)) (sym shape) all) unsound.uncaused.first
+      none_uncaused unsound.header.shape unsound.uncaused.rows unsound.place
+      (subst (λ (s : Shape). AllCaused s (reverse unsound.uncaused.rows)) (sym shape) all) unsound.uncaused.first

@@ -1,5 +1,6 @@
 -- Whatever a crash leaves of disks that keep kept journals opens to kept journals.
-use Rattle.std.proofs.Common.{◌≡◌, ◌⊎◌, inl, inr, ℕ, ◌<◌, true, false, nat_lt, List, [], ◌∷◌, ◌++◌, reverse, map, Option, Some, None, refl, sym, ap, ◌∙◌, subst, arith}
+use Rattle.std.proofs.Common.{◌≡◌, ◌⊎◌, inl, inr, ℕ, ◌<◌, true, false, nat_lt, List, [], ◌∷◌, ◌++◌, reverse, map, Option, Some, None, refl, sym, ap}
+use Rattle.std.proofs.Common.{◌∙◌, subst, arith}
 use Rattle.std.proofs.lemmas.Bool.{ltb-true, ltb-false}
 use Rattle.std.proofs.lemmas.Grind.{reverse_onto}
 use Rattle.std.proofs.lemmas.List.{map-append}
@@ -22,8 +23,10 @@ use Rattle.cbdc_model.specs.Ranges.{node_count}
 bodies_more : (r : Record) (J : List Record) → bodies_of (reverse J) ++ body_of r ∷ [] ≡ bodies_of (reverse (r ∷ J))
 bodies_more r J = sym (ap (λ rs. map body_of rs) (reverse_onto J r []) ∙ map-append body_of (reverse J) (r ∷ []))
 
-module _ {D : Type 0} (device : Ghosts D) (held : ℕ → Option D) (K : Shape) (mint : List Output) (submissions : List FullTx) (J : ℕ → List Record) (flights : ℕ → Option Record)
-    (may : AllMayCome K mint submissions J flights) (keeps : (n : ℕ) → n < node_count K → OfTold (held n) (λ d. (c : List ℕ) → device.images d c → OpensToEither (reverse (J n)) (flights n) c))
+module _ {D : Type 0} (device : Ghosts D) (held : ℕ → Option D) (K : Shape) (mint : List Output) (submissions : List FullTx) (J : ℕ → List Record)
+    (flights : ℕ → Option Record)
+    (may : AllMayCome K mint submissions J flights)
+    (keeps : (n : ℕ) → n < node_count K → OfTold (held n) (λ d. (c : List ℕ) → device.images d c → OpensToEither (reverse (J n)) (flights n) c))
     (contents : ℕ → List ℕ) (left : AreImagesLeft device held K contents) where
   -- the journal that a node's image opens to: it is that of the node, or stands before what may come next there
   record Left (n : ℕ) : Type 0 where
@@ -49,18 +52,22 @@ module _ {D : Type 0} (device : Ghosts D) (held : ℕ → Option D) (K : Shape) 
       go : (b : _) → nat_lt n (node_count K) ≡ b → (o : Option D) → held n ≡ o → Left n
       go false high o e = same n (λ inside d told. absurd (omega (arith, inside, ltb-false n (node_count K) high)))
       go true low None e = same n (λ inside d told. absurd (let z : None ≡ Some d = sym e ∙ told in cc))
-      go true low (Some d) e = either n (flights n) refl (keeps n (ltb-true n (node_count K) low) d e (contents n) (left n (ltb-true n (node_count K) low) d e))
+      go true low (Some d) e = either n (flights n) refl
+          (keeps n (ltb-true n (node_count K) low) d e (contents n) (left n (ltb-true n (node_count K) low) d e))
 
-  grown : (n : ℕ) → (now : List Record) → (now ≡ J n) ⊎ ((r : Record) × (now ≡ r ∷ J n) × MayCome K mint submissions J n r × (flights n ≡ Some r)) → IsEnd (J n) now
+  grown : (n : ℕ) → (now : List Record) → (now ≡ J n) ⊎ ((r : Record) × (now ≡ r ∷ J n) × MayCome K mint submissions J n r × (flights n ≡ Some r))
+      → IsEnd (J n) now
   grown n now (inl e) = subst (λ L. IsEnd (J n) L) (sym e) (end_self (J n))
   grown n now (inr (r, e, come, flies)) = (r ∷ [], e)
 
-  came : (n : ℕ) → (now : List Record) → (now ≡ J n) ⊎ ((r : Record) × (now ≡ r ∷ J n) × MayCome K mint submissions J n r × (flights n ≡ Some r)) → (now ≡ J n) ⊎ ((r : Record) × (now ≡ r ∷ J n) × MayCome K mint submissions J n r)
+  came : (n : ℕ) → (now : List Record) → (now ≡ J n) ⊎ ((r : Record) × (now ≡ r ∷ J n) × MayCome K mint submissions J n r × (flights n ≡ Some r))
+      → (now ≡ J n) ⊎ ((r : Record) × (now ≡ r ∷ J n) × MayCome K mint submissions J n r)
   came n now (inl e) = inl e
   came n now (inr (r, e, come, flies)) = inr (r, e, come)
 
   -- all of them are kept, each the journal of its node or that with what is in flight there
-  pub crashed : 0 < K.shards → KeptJournals K mint submissions J → (X : ℕ → List Record) × OpenTo held K contents X × ((n : ℕ) → IsEnd (J n) (X n)) × KeptJournals K mint submissions X
+  pub crashed : 0 < K.shards → KeptJournals K mint submissions J
+      → (X : ℕ → List Record) × OpenTo held K contents X × ((n : ℕ) → IsEnd (J n) (X n)) × KeptJournals K mint submissions X
       × ((n : ℕ) → (X n ≡ J n) ⊎ ((r : Record) × (X n ≡ r ∷ J n) × MayCome K mint submissions J n r × (flights n ≡ Some r)))
   crashed some kept = (
     λ n. (at_node n).now,

@@ -21,9 +21,11 @@ use Rattle.rack_ledgers.specs.Refused.{IsNodeJournal}
 use Rattle.cbdc_model.specs.Ranges.{node_count}
 use Rattle.rack_laws.specs.Ready.{HasKeptRoom}
 
-module _ (K : Shape) (mint : List Output) (submissions : List FullTx) (E : ℕ → List Record) (capacity : ℕ → ℕ) (limits : IsWithinLimits K) (kept : KeptJournals K mint submissions E) where
+module _ (K : Shape) (mint : List Output) (submissions : List FullTx) (E : ℕ → List Record) (capacity : ℕ → ℕ) (limits : IsWithinLimits K)
+    (kept : KeptJournals K mint submissions E) where
   pub ample_rooms : (sound : FullTx → Bool) (files : List (List FullTx)) → Ample K sound capacity files E → HasKeptRoom K E capacity
-  ample_rooms sound files ample n inside = kept_room_law K (minted mint) sound capacity files E n limits ample (kept_is_checked_law K mint submissions E kept) inside
+  ample_rooms sound files ample n inside = kept_room_law K (minted mint) sound capacity files E n limits ample
+      (kept_is_checked_law K mint submissions E kept) inside
 
   pub idle_rooms : AreIdle K E → ((n : ℕ) → n < node_count K → used_of (E n) ≤ capacity n) → HasKeptRoom K E capacity
   idle_rooms idle fits n inside =
@@ -31,7 +33,8 @@ module _ (K : Shape) (mint : List Output) (submissions : List FullTx) (E : ℕ �
       omega (arith, none, fits n inside)
 
 -- more room is enough too
-pub more_room : (K : Shape) (sound : FullTx → Bool) (one other : ℕ → ℕ) (files : List (List FullTx)) (E : ℕ → List Record) → ((n : ℕ) → n < node_count K → one n ≤ other n) → Ample K sound one files E → Ample K sound other files E
+pub more_room : (K : Shape) (sound : FullTx → Bool) (one other : ℕ → ℕ) (files : List (List FullTx)) (E : ℕ → List Record)
+    → ((n : ℕ) → n < node_count K → one n ≤ other n) → Ample K sound one files E → Ample K sound other files E
 more_room K sound one other files E more ample = record {
   batches = ample.batches;
   cut = ample.cut;

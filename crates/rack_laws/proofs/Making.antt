@@ -11,9 +11,11 @@ use Rattle.ledger_init.specs.Made.{IsUnmade}
 use Rattle.rack_laws.specs.Making.{CanMake}
 
 pub made : {D : Type 0} (device : Ghosts D) (held : ℕ → Option D) (before now : ℕ → ℕ) (K : Shape) (mint : List Output) (answer : Answer)
-    → CanMake device held K mint → ((n : ℕ) → n < node_count K → Rose (before n) (now n) → ⊥) → IsUnmade K mint device held before now answer → answer ≡ answers.Memory
+    → CanMake device held K mint → ((n : ℕ) → n < node_count K → Rose (before n) (now n) → ⊥) → IsUnmade K mint device held before now answer
+    → answer ≡ answers.Memory
 made device held before now K mint (answers.TooMuch total) can steady is = let fits = can.fits in absurd (omega (arith, is.0, is.1, fits))
-made device held before now K mint (answers.NotEmpty n) can steady is = let u = can.unused n is.inside in absurd (u.2.2 (is.in_use u.0 u.1 u.2.0 u.2.1))
+made device held before now K mint (answers.NotEmpty n) can steady is = let u = can.unused n is.inside in
+    absurd (u.2.2 (is.in_use u.0 u.1 u.2.0 u.2.1))
 made device held before now K mint (answers.Full n used need capacity) can steady is =
     let full = is.2 in
     let u = can.unused n full.inside in

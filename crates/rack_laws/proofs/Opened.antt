@@ -1,5 +1,6 @@
 -- A ledger that was opened is the one that the rack shows.
-use Rattle.std.proofs.Common.{◌≡◌, ◌⊎◌, inl, inr, ℕ, zero, suc, ◌+◌, ◌-◌, ◌<◌, ◌≤◌, true, false, nat_lt, if◌then◌else◌, List, [], ◌∷◌, length, get_or, Option, Some, None, refl, sym, ap, ◌∙◌, arith}
+use Rattle.std.proofs.Common.{◌≡◌, ◌⊎◌, inl, inr, ℕ, zero, suc, ◌+◌, ◌-◌, ◌<◌, ◌≤◌, true, false, nat_lt, if◌then◌else◌, List, [], ◌∷◌, length, get_or}
+use Rattle.std.proofs.Common.{Option, Some, None, refl, sym, ap, ◌∙◌, arith}
 use Rattle.std.specs.Prelude.{slice_get, All}
 use Rattle.std.proofs.lemmas.Option.{slice_get_cases, slice_get-get_or, slice_get_within}
 use Rattle.std.proofs.lemmas.Bool.{ltb-true, ltb-false}
@@ -22,7 +23,8 @@ use Rattle.cbdc_model.specs.Ranges.{node_count}
 pub at_place : {N : Type 0} (xs : List N) (n : ℕ) → n < length xs → (x : N) × (slice_get xs n ≡ Some x)
 at_place xs n inside = go (slice_get_cases xs n).1
   where
-    go : ((x : _) × (n < length xs) × (slice_get xs n ≡ Some x) × (get_or xs n x ≡ x)) ⊎ ((length xs ≤ n) × (slice_get xs n ≡ None)) → (x : _) × (slice_get xs n ≡ Some x)
+    go : ((x : _) × (n < length xs) × (slice_get xs n ≡ Some x) × (get_or xs n x ≡ x)) ⊎ ((length xs ≤ n) × (slice_get xs n ≡ None))
+        → (x : _) × (slice_get xs n ≡ Some x)
     go (inl (x, low, is, e)) = (x, is)
     go (inr (past, e)) = absurd (omega (arith, past, inside))
 
@@ -49,13 +51,15 @@ module _ {D : Type 0} (device : Ghosts D) (held : ℕ → Option D) (h : Header)
   node_that Is n x is low =
       let s = shows n low in
       let found = (is.opened s.0 s.1).stands s.2.0 s.2.1 in
-      let once = opens_once_law x.header (header_of K genesis n) x.journal (J n) s.2.0 found.0.limits within is.journal s.2.2.journal found.0.opens s.2.2.opens in
+      let once = opens_once_law x.header (header_of K genesis n) x.journal (J n) s.2.0 found.0.limits within is.journal s.2.2.journal found.0.opens
+      s.2.2.opens in
       record { header_is = once.0; journal_is = once.1; holds = found.1 }
 
   log_that : (n : ℕ) (l : NodeOf D) → slice_get logs n ≡ Some l → n < node_count K → IsThat device l K genesis n (J n)
   log_that n l there low = node_that IsCoord n l (are.logs_at n l there) low
 
-  shard_that : (s : ℕ) (x : NodeOf D) → slice_get shards s ≡ Some x → h.shape.coordinators + s < node_count K → IsThat device x K genesis (h.shape.coordinators + s) (J (h.shape.coordinators + s))
+  shard_that : (s : ℕ) (x : NodeOf D) → slice_get shards s ≡ Some x → h.shape.coordinators + s < node_count K
+      → IsThat device x K genesis (h.shape.coordinators + s) (J (h.shape.coordinators + s))
   shard_that s x there low = node_that IsShardHeader (h.shape.coordinators + s) x (are.shards_at s x there) low
 
   lead : (l : NodeOf D) × (slice_get logs 0 ≡ Some l)
@@ -95,7 +99,8 @@ module _ {D : Type 0} (device : Ghosts D) (held : ℕ → Option D) (h : Header)
   pub same_journals : ((n : ℕ) → node_count K ≤ n → J n ≡ []) → (n : ℕ) → seen_by K (sight_at sight logs) (sight_at sight shards) n ≡ J n
   same_journals beyond n = go (nat_lt n K.coordinators) refl
     where
-      go : (b : _) → nat_lt n K.coordinators ≡ b → (if b then (sight_at sight logs n).seen else (sight_at sight shards (n - K.coordinators)).seen) ≡ J n
+      go : (b : _) → nat_lt n K.coordinators ≡ b → (if b then (sight_at sight logs n).seen else (sight_at sight shards (n - K.coordinators)).seen)
+          ≡ J n
       go true t = log_journal n (ltb-true n K.coordinators t)
       go false t = rest (nat_lt n (node_count K)) refl
         where
@@ -111,7 +116,8 @@ module _ {D : Type 0} (device : Ghosts D) (held : ℕ → Option D) (h : Header)
               past_end sight shards (n - K.coordinators) (omega (arith, shards_count, past)) ∙ sym (beyond n past)
 
   pub logs_held : All (HoldsJournal device) logs
-  logs_held = all_by (HoldsJournal device) logs (λ n l there. (log_that n l there (omega (arith, coordinators_are, slice_get_within logs n l there))).holds)
+  logs_held = all_by (HoldsJournal device) logs (λ n l there.
+      (log_that n l there (omega (arith, coordinators_are, slice_get_within logs n l there))).holds)
 
   pub shards_held : All (HoldsJournal device) shards
   shards_held = all_by (HoldsJournal device) shards (λ s x there.

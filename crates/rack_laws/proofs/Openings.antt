@@ -1,5 +1,6 @@
 -- The nodes of a ledger that a rack shows open.
-use Rattle.std.proofs.Common.{◌≡◌, inl, inr, ℕ, ◌+◌, ◌≤◌, ◌<◌, List, [], ◌∷◌, length, Option, Some, None, slice_get, refl, sym, ap, ap₂, ◌∙◌, subst, arith}
+use Rattle.std.proofs.Common.{◌≡◌, inl, inr, ℕ, ◌+◌, ◌≤◌, ◌<◌, List, [], ◌∷◌, length, Option, Some, None, slice_get, refl, sym, ap, ap₂, ◌∙◌, subst}
+use Rattle.std.proofs.Common.{arith}
 use Rattle.outside.specs.Images.{Tells}
 use Rattle.outside.specs.declared.disk.Disk.{Ghosts}
 use Rattle.cbdc_types.specs.declared.answer.Answer.{Answer}
@@ -37,7 +38,16 @@ node_opens Is node ledger h J limit bytes (answers.Damaged n at) is of asked roo
 node_opens Is node ledger h J limit bytes (answers.Full n used need capacity) is of asked room refused =
     let full = refused.2 in
     let same = same_node h full.header J full.journal bytes is full.is in
-    absurd (omega (arith, room, full.passes, refused.1, full.used_is, full.need_is, ap used_of same.1, ap₂ (λ (g : Header) (l : List Record). kept_room g.shape l) same.0 same.1))
+    absurd (omega (
+      arith,
+      room,
+      full.passes,
+      refused.1,
+      full.used_is,
+      full.need_is,
+      ap used_of same.1,
+      ap₂ (λ (g : Header) (l : List Record). kept_room g.shape l) same.0 same.1,
+    ))
 node_opens Is node ledger h J limit bytes (answers.Foreign n kept other) is of asked room refused =
     let foreign = refused.2 in
     let same = same_node h kept J foreign.journal bytes is foreign.is in
@@ -57,10 +67,13 @@ node_opens Is node ledger h J limit bytes (answers.ClockEnd n stamp) is of asked
 node_opens Is node ledger h J limit bytes (answers.ReadFault file) is of asked room refused = absurd refused
 node_opens Is node ledger h J limit bytes answers.WriteFault is of asked room refused = absurd refused
 
-module _ {D : Type 0} (device : Ghosts D) (held : ℕ → Option D) (K : Shape) (mint : List Output) (submissions : List FullTx) (E : ℕ → List Record) (ready : ShowsKept device held K mint submissions E) where
+module _ {D : Type 0} (device : Ghosts D) (held : ℕ → Option D) (K : Shape) (mint : List Output) (submissions : List FullTx) (E : ℕ → List Record)
+    (ready : ShowsKept device held K mint submissions E) where
   -- whatever journal a node's disk opens to is its own
-  pub opens_to : (n : ℕ) (h : Header) (J : List Record) → n < node_count K → OfTold (held n) (λ was. Tells (device.content was) (IsNodeJournal h J)) → (h ≡ header_of K (genesis_id mint) n) × (J ≡ E n)
-  opens_to n h J inside opened = let s = ready.shown n inside in same_node h (header_of K (genesis_id mint) n) J (E n) s.2.0 (opened s.0 s.1 s.2.0 s.2.1) s.2.2
+  pub opens_to : (n : ℕ) (h : Header) (J : List Record) → n < node_count K → OfTold (held n) (λ was. Tells (device.content was) (IsNodeJournal h J))
+      → (h ≡ header_of K (genesis_id mint) n) × (J ≡ E n)
+  opens_to n h J inside opened = let s = ready.shown n inside in
+      same_node h (header_of K (genesis_id mint) n) J (E n) s.2.0 (opened s.0 s.1 s.2.0 s.2.1) s.2.2
 
   some_node : 0 < node_count K
   some_node = let limits = ready.limits in omega (arith, limits.some_coordinator)
@@ -81,21 +94,25 @@ module _ {D : Type 0} (device : Ghosts D) (held : ℕ → Option D) (before now 
 
   module _ (rooms : HasKeptRoom K E (λ n. limit_at device (held n))) (none : NoneRises K before now) where
     -- a node of the ledger is refused for memory alone
-    refused_none : (Is : Header → Type 0) (ledger : Option Header) (n : ℕ) (answer : Answer) → n < node_count K → Is (H n) → H n ≡ asked_of n ledger (H n)
+    refused_none : (Is : Header → Type 0) (ledger : Option Header) (n : ℕ) (answer : Answer) → n < node_count K → Is (H n)
+        → H n ≡ asked_of n ledger (H n)
         → IsNodeRefused device held before now Is ledger n answer → answer ≡ answers.Memory
     refused_none Is ledger n answer inside of asked refused =
         let s = ready.shown n inside in
-        let room : used_of (E n) + kept_room K (E n) ≤ device.limit s.0 = subst (λ (o : Option D). used_of (E n) + kept_room K (E n) ≤ limit_at device o) s.1 (rooms n inside) in
+        let room : used_of (E n) + kept_room K (E n) ≤ device.limit s.0 =
+        subst (λ (o : Option D). used_of (E n) + kept_room K (E n) ≤ limit_at device o) s.1 (rooms n inside) in
         elim (node_opens Is n ledger (H n) (E n) (device.limit s.0) s.2.0 answer s.2.2 of asked room (refused.cause s.0 s.1 s.2.0 s.2.1)) [
           | inl failed ↦ absurd (none n inside (subst (λ (a : Answer). IsOpening n (before n) (now n) a) failed refused.fault).1)
           | inr memory ↦ memory
         ]
 
     -- the header of the ledger is that of node 0, as its first coordinator tells it
-    lead_is : (h : Header) (logs : List (NodeOf D)) → 1 ≤ length logs → ((n : ℕ) (l : NodeOf D) → slice_get logs n ≡ Some l → IsNodeAt device held IsCoord h n l)
+    lead_is : (h : Header) (logs : List (NodeOf D)) → 1 ≤ length logs
+        → ((n : ℕ) (l : NodeOf D) → slice_get logs n ≡ Some l → IsNodeAt device held IsCoord h n l)
         → (h.shape ≡ K) × (h.genesis ≡ genesis_id mint)
     lead_is h [] some at = absurd (omega (arith, some))
-    lead_is h (l ∷ logs) some at = let same = log_is h 0 l first_node (at 0 l refl) in (ap (λ (x : Header). x.shape) same, ap (λ (x : Header). x.genesis) same)
+    lead_is h (l ∷ logs) some at = let same = log_is h 0 l first_node (at 0 l refl) in
+        (ap (λ (x : Header). x.shape) same, ap (λ (x : Header). x.genesis) same)
 
     same_asked : (h : Header) (n : ℕ) → h.shape ≡ K → h.genesis ≡ genesis_id mint → H n ≡ asked_of n (Some h) (H n)
     same_asked h n shape genesis = λ i. record { node = n; shape = sym shape i; genesis = sym genesis i }
@@ -104,7 +121,8 @@ module _ {D : Type 0} (device : Ghosts D) (held : ℕ → Option D) (before now 
     lacks_log id answer lacks =
         let lead = lead_is lacks.header lacks.logs lacks.some lacks.logs_at in
         let low : length lacks.logs < K.coordinators = subst (λ (s : Shape). length lacks.logs < s.coordinators) lead.0 lacks.inside in
-        refused_none IsCoord (Some lacks.header) (length lacks.logs) answer (omega (arith, low)) low (same_asked lacks.header (length lacks.logs) lead.0 lead.1) lacks.refused
+        refused_none IsCoord (Some lacks.header) (length lacks.logs) answer (omega (arith, low)) low
+        (same_asked lacks.header (length lacks.logs) lead.0 lead.1) lacks.refused
 
     lacks_shard : (id : Option Digest) (answer : Answer) → LacksShard device held before now id answer → answer ≡ answers.Memory
     lacks_shard id answer lacks =
@@ -113,11 +131,13 @@ module _ {D : Type 0} (device : Ghosts D) (held : ℕ → Option D) (before now 
         let low : length lacks.shards < K.shards = subst (λ (s : Shape). length lacks.shards < s.shards) lead.0 lacks.inside in
         let count : lacks.header.shape.coordinators ≡ K.coordinators = ap (λ (s : Shape). s.coordinators) lead.0 in
         let place : ℕ = lacks.header.shape.coordinators + length lacks.shards in
-        refused_none IsShardHeader (Some lacks.header) (lacks.header.shape.coordinators + length lacks.shards) answer (omega (arith, low, device.count)) (omega (arith, device.count), omega (arith, device.count, low))
+        refused_none IsShardHeader (Some lacks.header) (lacks.header.shape.coordinators + length lacks.shards) answer
+        (omega (arith, low, device.count)) (omega (arith, device.count), omega (arith, device.count, low))
         (same_asked lacks.header (lacks.header.shape.coordinators + length lacks.shards) lead.0 lead.1) lacks.refused
 
     unled_none : (answer : Answer) → IsNodeRefused device held before now IsCoord None 0 answer → answer ≡ answers.Memory
-    unled_none answer refused = let limits = ready.limits in refused_none IsCoord None 0 answer first_node (omega (arith, limits.some_coordinator)) refl refused
+    unled_none answer refused = let limits = ready.limits in
+        refused_none IsCoord None 0 answer first_node (omega (arith, limits.some_coordinator)) refl refused
 
     -- whichever mint was asked for, where it is this one, or none
     abbrev IsThisMint : Option Digest → Type 0
@@ -130,7 +150,8 @@ module _ {D : Type 0} (device : Ghosts D) (held : ℕ → Option D) (before now 
         let same = log_is other.lead.header 0 other.lead first_node other.lead_at in
         absurd (other.other.0 (ap (λ (x : Header). x.genesis) same ∙ sym this))
 
-    pub unopened_none : (id : Option Digest) (answer : Answer) → IsThisMint id → IsUnopenedBy device held before now id answer → answer ≡ answers.Memory
+    pub unopened_none : (id : Option Digest) (answer : Answer) → IsThisMint id → IsUnopenedBy device held before now id answer
+        → answer ≡ answers.Memory
     unopened_none id answer this (inl (inl refused)) = unled_none answer refused
     unopened_none id answer this (inl (inr (inl other))) = other_none id answer this other
     unopened_none id answer this (inl (inr (inr lacks))) = lacks_log id answer lacks

@@ -7,12 +7,14 @@ use Rattle.cbdc_model.specs.After.{After}
 use Rattle.cbdc_model.specs.Room.{size_of, lane_room, kept_room, need_of}
 use Rattle.cbdc_model.specs.Due.{used_of}
 use Rattle.coord_log.proofs.Places.{commit_size}
-use Rattle.shard_node.proofs.Lanes.{same_lane, other_lane, SaysSameOfLane, same_room, past_lock, past_finish, past_forget, locked_room, finished_room, forgotten_room, room_locked, room_finished, room_idle}
+use Rattle.shard_node.proofs.Lanes.{same_lane, other_lane, SaysSameOfLane, same_room, past_lock, past_finish, past_forget, locked_room, finished_room}
+use Rattle.shard_node.proofs.Lanes.{forgotten_room, room_locked, room_finished, room_idle}
 use Rattle.shard_node.proofs.Rooms.{kept_moves}
 use Rattle.shard_node.proofs.Follows.{fits_length}
 
 -- of other lanes a coordinator's record says nothing
-past_prepare : (J : List Record) (stamp : ℕ) (b : Batch) (txs : List Compact) (lane : ℕ) → b.lane ≢ lane → SaysSameOfLane J (Prepare stamp b txs ∷ J) lane
+past_prepare : (J : List Record) (stamp : ℕ) (b : Batch) (txs : List Compact) (lane : ℕ) → b.lane ≢ lane
+    → SaysSameOfLane J (Prepare stamp b txs ∷ J) lane
 past_prepare J stamp b txs lane apart = let e = other_lane b.lane lane apart in record { slots = rw e refl; locks = λ n. refl; txs = λ n. rw e refl }
 
 past_commit : (J : List Record) (stamp : ℕ) (b : Batch) (os : List Outcome) (lane : ℕ) → b.lane ≢ lane → SaysSameOfLane J (Commit stamp b os ∷ J) lane
@@ -38,7 +40,8 @@ done_room : (J : List Record) (stamp : ℕ) (b : Batch) → lane_room (Done stam
 done_room J stamp b = let e = same_lane b.lane in rw e refl
 
 -- and before it
-room_prepared : (J : List Record) (b : Batch) → (slot J b.lane).phase ≡ InPrepare → (slot J b.lane).number ≡ b.number → lane_room J b.lane ≡ 110 + 57 * length (txs_of J b)
+room_prepared : (J : List Record) (b : Batch) → (slot J b.lane).phase ≡ InPrepare → (slot J b.lane).number ≡ b.number
+    → lane_room J b.lane ≡ 110 + 57 * length (txs_of J b)
 room_prepared J b phase number = rw (phase, number) refl
 
 room_committed : (J : List Record) (lane : ℕ) → (slot J lane).phase ≡ InCommit → lane_room J lane ≡ 68
@@ -51,10 +54,18 @@ moved : (h : Header) (J N : List Record) (lane : ℕ) → ((l : ℕ) → lane �
     → kept_room h.shape N + lane_room J lane ≡ kept_room h.shape J + lane_room N lane
 moved h J N lane others inside = kept_moves J N lane (h.shape.coordinators * h.shape.lanes) (λ l apart. same_room J N l (others l apart)) inside
 
-pub room_behind : (h : Header) (J : List Record) (r : Record) (limit : ℕ) → (J ≡ [] → ⊥) → After h J r → used_of J + kept_room h.shape J ≤ limit → used_of J + need_of h.shape J r ≤ limit
+pub room_behind : (h : Header) (J : List Record) (r : Record) (limit : ℕ) → (J ≡ [] → ⊥) → After h J r → used_of J + kept_room h.shape J ≤ limit
+    → used_of J + need_of h.shape J r ≤ limit
     → used_of (r ∷ J) + kept_room h.shape (r ∷ J) ≤ limit
 room_behind h J (Lock stamp b es) limit some after room need =
-    omega (arith, moved h J (Lock stamp b es ∷ J) b.lane (λ l apart. past_lock J stamp b es l apart) after.0.1.0, room_idle J b.lane after.1.1, locked_room J stamp b es, need, sum_by-cons size_of (Lock stamp b es) J)
+    omega (
+      arith,
+      moved h J (Lock stamp b es ∷ J) b.lane (λ l apart. past_lock J stamp b es l apart) after.0.1.0,
+      room_idle J b.lane after.1.1,
+      locked_room J stamp b es,
+      need,
+      sum_by-cons size_of (Lock stamp b es) J,
+    )
 room_behind h J (Finish stamp b ds) limit some after room need =
     omega (
       arith,
@@ -66,9 +77,23 @@ room_behind h J (Finish stamp b ds) limit some after room need =
       sum_by-cons size_of (Finish stamp b ds) J,
     )
 room_behind h J (Forget stamp b) limit some after room need =
-    omega (arith, moved h J (Forget stamp b ∷ J) b.lane (λ l apart. past_forget J stamp b l apart) after.0.1.0, room_finished J b.lane after.1.1, forgotten_room J stamp b, room, sum_by-cons size_of (Forget stamp b) J)
+    omega (
+      arith,
+      moved h J (Forget stamp b ∷ J) b.lane (λ l apart. past_forget J stamp b l apart) after.0.1.0,
+      room_finished J b.lane after.1.1,
+      forgotten_room J stamp b,
+      room,
+      sum_by-cons size_of (Forget stamp b) J,
+    )
 room_behind h J (Prepare stamp b txs) limit some after room need =
-    omega (arith, moved h J (Prepare stamp b txs ∷ J) b.lane (λ l apart. past_prepare J stamp b txs l apart) after.0.1.0, room_idle J b.lane after.1.2, prepared_room J stamp b txs, need, sum_by-cons size_of (Prepare stamp b txs) J)
+    omega (
+      arith,
+      moved h J (Prepare stamp b txs ∷ J) b.lane (λ l apart. past_prepare J stamp b txs l apart) after.0.1.0,
+      room_idle J b.lane after.1.2,
+      prepared_room J stamp b txs,
+      need,
+      sum_by-cons size_of (Prepare stamp b txs) J,
+    )
 room_behind h J (Commit stamp b os) limit some after room need =
     omega (
       arith,
@@ -81,7 +106,21 @@ room_behind h J (Commit stamp b os) limit some after room need =
       sum_by-cons size_of (Commit stamp b os) J,
     )
 room_behind h J (Discard stamp b) limit some after room need =
-    omega (arith, moved h J (Discard stamp b ∷ J) b.lane (λ l apart. past_discard J stamp b l apart) after.0.1.0, room_committed J b.lane after.1.2, discarded_room J stamp b, room, sum_by-cons size_of (Discard stamp b) J)
+    omega (
+      arith,
+      moved h J (Discard stamp b ∷ J) b.lane (λ l apart. past_discard J stamp b l apart) after.0.1.0,
+      room_committed J b.lane after.1.2,
+      discarded_room J stamp b,
+      room,
+      sum_by-cons size_of (Discard stamp b) J,
+    )
 room_behind h J (Done stamp b) limit some after room need =
-    omega (arith, moved h J (Done stamp b ∷ J) b.lane (λ l apart. past_done J stamp b l apart) after.0.1.0, room_discarded J b.lane after.1.2, done_room J stamp b, room, sum_by-cons size_of (Done stamp b) J)
+    omega (
+      arith,
+      moved h J (Done stamp b ∷ J) b.lane (λ l apart. past_done J stamp b l apart) after.0.1.0,
+      room_discarded J b.lane after.1.2,
+      done_room J stamp b,
+      room,
+      sum_by-cons size_of (Done stamp b) J,
+    )
 room_behind h J other limit some after room need = absurd (some after.1)

@@ -1,5 +1,6 @@
 -- Kept journals with every lane idle are found sound by an audit, where no hashes clash.
-use Rattle.std.proofs.Common.{◌≡◌, inl, inr, ◌*◌, ◌<◌, ℕ, zero, suc, true, false, ◌&&◌, ◌==◌, if◌then◌else◌, List, [], ◌∷◌, ◌++◌, length, reverse, Some, refl, sym, ap, ◌∙◌, subst, arith}
+use Rattle.std.proofs.Common.{◌≡◌, inl, inr, ◌*◌, ◌<◌, ℕ, zero, suc, true, false, ◌&&◌, ◌==◌, if◌then◌else◌, List, [], ◌∷◌, ◌++◌, length, reverse}
+use Rattle.std.proofs.Common.{Some, refl, sym, ap, ◌∙◌, subst, arith}
 use Rattle.std.specs.Prelude.{slice_get, is_some, find}
 use Rattle.std.specs.FinMap.{len}
 use Rattle.std.proofs.lemmas.Bool.{cases_lt}
@@ -38,7 +39,8 @@ caused_behind K (row ∷ newer) past all = caused_behind K newer past all.1
 -- a row among others, from the other end
 turned : (rows before after : List Row) (row : Row) → rows ≡ before ++ row ∷ after → reverse rows ≡ reverse after ++ row ∷ reverse before
 turned rows before after row e =
-    ap reverse e ∙ reverse-append before (row ∷ after) ∙ ap (λ l. l ++ reverse before) (reverse-append (row ∷ []) after) ∙ append_assoc (reverse after) (row ∷ []) (reverse before)
+    ap reverse e ∙ reverse-append before (row ∷ after) ∙ ap (λ l. l ++ reverse before) (reverse-append (row ∷ []) after)
+    ∙ append_assoc (reverse after) (row ∷ []) (reverse before)
 
 split : {A : Type 0} (xs : List A) (k : ℕ) (x : A) → slice_get xs k ≡ Some x → (before : List A) × (after : List A) × (xs ≡ before ++ x ∷ after)
 split [] k x at = absurd (cc)
@@ -46,20 +48,25 @@ split (y ∷ xs) zero x at = let same : y ≡ x = cc in ([], xs, ap (λ z. z ∷
 split (y ∷ xs) (suc k) x at = let (before, after, e) = split xs k x at in (y ∷ before, after, ap (λ l. y ∷ l) e)
 
 -- a batch that has a Prepare among records has one
-found : (newer older : List Record) (stamp : ℕ) (b : Batch) (txs : List Compact) → is_some (record_of 6 (newer ++ Prepare stamp b txs ∷ older) b) ≡ true
-found [] older stamp b txs = ap (λ t. is_some (if t then Some (Prepare stamp b txs) else find (λ r. (kind_of r == 6) && is_of b r) older)) (is_here stamp b txs)
+found : (newer older : List Record) (stamp : ℕ) (b : Batch) (txs : List Compact)
+    → is_some (record_of 6 (newer ++ Prepare stamp b txs ∷ older) b) ≡ true
+found [] older stamp b txs = ap (λ t. is_some (if t then Some (Prepare stamp b txs) else find (λ r. (kind_of r == 6) && is_of b r) older))
+    (is_here stamp b txs)
   where
     is_here : (stamp : ℕ) (b : Batch) (txs : List Compact) → ((kind_of (Prepare stamp b txs) == 6) && is_of b (Prepare stamp b txs)) ≡ true
     is_here stamp b txs = grind arith
-found (r ∷ newer) older stamp b txs = elim ((kind_of r == 6) && is_of b r) as (λ t. is_some (if t then Some r else record_of 6 (newer ++ Prepare stamp b txs ∷ older) b) ≡ true) [
-  | true ↦ refl
-  | false ↦ found newer older stamp b txs
-]
+found (r ∷ newer) older stamp b txs = elim ((kind_of r == 6) && is_of b r) as
+    (λ t. is_some (if t then Some r else record_of 6 (newer ++ Prepare stamp b txs ∷ older) b) ≡ true) [
+      | true ↦ refl
+      | false ↦ found newer older stamp b txs
+    ]
 
-module _ (K : Shape) (mint : List Output) (submissions : List FullTx) (X : ℕ → List Record) (within : IsWithinLimits K) (nodes : (n : ℕ) → n < node_count K → IsJournal (header_of K (genesis_id mint) n) (X n)) (kept : KeptJournals K mint submissions X)
+module _ (K : Shape) (mint : List Output) (submissions : List FullTx) (X : ℕ → List Record) (within : IsWithinLimits K)
+    (nodes : (n : ℕ) → n < node_count K → IsJournal (header_of K (genesis_id mint) n) (X n)) (kept : KeptJournals K mint submissions X)
     (rows : List Row) (journals_are : (n : ℕ) → journal n (reverse rows) ≡ X n) (ordered : IsOrdered (reverse rows)) where
   is_history : reverse rows ≡ history_of K mint kept.later
-  is_history = ordered_rows K mint X kept.later (reverse rows) (steady_after K (minted mint) (IsProperCompact submissions) kept.later kept.kept) kept.history ordered journals_are
+  is_history = ordered_rows K mint X kept.later (reverse rows) (steady_after K (minted mint) (IsProperCompact submissions) kept.later kept.kept)
+      kept.history ordered journals_are
 
   -- each row is caused
   pub all_caused : AllCaused K (reverse rows)
@@ -71,14 +78,18 @@ module _ (K : Shape) (mint : List Output) (submissions : List FullTx) (X : ℕ �
       first.uncaused (caused_behind K (reverse first.after) (first.row ∷ reverse first.before) whole).0
 
   module _ (idle : AreIdle K X) where
-    prepared_done : (stamp : ℕ) (b : Batch) (txs : List Compact) (n : ℕ) (newer older : List Record) → n < node_count K → X n ≡ newer ++ Prepare stamp b txs ∷ older → is_some (record_of 9 (X (home_of K b.lane)) b) ≡ true
+    prepared_done : (stamp : ℕ) (b : Batch) (txs : List Compact) (n : ℕ) (newer older : List Record) → n < node_count K
+        → X n ≡ newer ++ Prepare stamp b txs ∷ older → is_some (record_of 9 (X (home_of K b.lane)) b) ≡ true
     prepared_done stamp b txs n newer older inside e =
-        let after = after_in (header_of K (genesis_id mint) n) newer older (Prepare stamp b txs) (subst (IsJournal (header_of K (genesis_id mint) n)) e (nodes n inside)) in
+        let after = after_in (header_of K (genesis_id mint) n) newer older (Prepare stamp b txs)
+        (subst (IsJournal (header_of K (genesis_id mint) n)) e (nodes n inside)) in
         let home : n ≡ home_of K b.lane = after.1.1 in
         let lane : b.lane < K.coordinators * K.lanes = after.0.1.0 in
-        let there : is_some (record_of 6 (X (home_of K b.lane)) b) ≡ true = subst (λ J. is_some (record_of 6 J b) ≡ true) (sym e ∙ ap X home) (found newer older stamp b txs) in
+        let there : is_some (record_of 6 (X (home_of K b.lane)) b) ≡ true =
+        subst (λ J. is_some (record_of 6 J b) ≡ true) (sym e ∙ ap X home) (found newer older stamp b txs) in
         let at = kept.history.journals_are (home_of K b.lane) in
-        let ok = all_dones K (minted mint) (IsProperCompact submissions) (omega (arith, within.some_shard)) kept.later (steady K (minted mint) (IsProperCompact submissions) kept.later kept.kept) (home_of K b.lane) in
+        let ok = all_dones K (minted mint) (IsProperCompact submissions) (omega (arith, within.some_shard)) kept.later
+        (steady K (minted mint) (IsProperCompact submissions) kept.later kept.kept) (home_of K b.lane) in
         subst (λ J. is_some (record_of 9 J b) ≡ true) at
         (ok.idle_done b (subst (λ J. is_some (record_of 6 J b) ≡ true) (sym at) there) (ap (λ J. (slot J b.lane).phase) at ∙ idle b.lane lane))
 
@@ -87,7 +98,8 @@ module _ (K : Shape) (mint : List Output) (submissions : List FullTx) (X : ℕ �
         let (before, after, parts) = split rows k row at in
         let e : journal row.node (reverse rows) ≡ journal row.node (reverse after) ++ row.what ∷ journal row.node (reverse before) =
         ap (journal row.node) (turned rows before after row parts) ∙ journal-append row.node (reverse after) (row ∷ reverse before)
-        ∙ ap (λ t. journal row.node (reverse after) ++ (if t then row.what ∷ journal row.node (reverse before) else journal row.node (reverse before))) (same row.node) in
+        ∙ ap (λ t. journal row.node (reverse after)
+        ++ (if t then row.what ∷ journal row.node (reverse before) else journal row.node (reverse before))) (same row.node) in
         by_kind row.node row.what (journal row.node (reverse after)) (journal row.node (reverse before)) (sym (journals_are row.node) ∙ e)
       where
         same : (n : ℕ) → (n == n) ≡ true
@@ -112,10 +124,19 @@ module _ (K : Shape) (mint : List Output) (submissions : List FullTx) (X : ℕ �
 
     module _ (headline : Headline K mint submissions X) where
       same_history : history_of K mint headline.later ≡ reverse rows
-      same_history = ap (history_of K mint) (one_history_law K (minted mint) X headline.later kept.later headline.history kept.history) ∙ sym is_history
+      same_history = ap (history_of K mint) (one_history_law K (minted mint) X headline.later kept.later headline.history kept.history)
+          ∙ sym is_history
 
       abbrev pub totals : Totals
-      totals = record { coins = len headline.book; value = value headline.book; minted = value_out mint; committed = length (committed (reverse rows)); money = money headline.book; issued = issued headline.txs; redeemed = redeemed headline.txs }
+      totals = record {
+        coins = len headline.book;
+        value = value headline.book;
+        minted = value_out mint;
+        committed = length (committed (reverse rows));
+        money = money headline.book;
+        issued = issued headline.txs;
+        redeemed = redeemed headline.txs;
+      }
 
       -- the audit's verdict
       pub is_sound : IsSoundHistory K mint submissions rows totals
@@ -123,7 +144,11 @@ module _ (K : Shape) (mint : List Output) (submissions : List FullTx) (X : ℕ �
         book = headline.book;
         pass = record {
           caused = all_caused;
-          spent = record { txs = headline.txs; handed_in = subst (λ h. AreHandedIn submissions (committed h) headline.txs) same_history headline.committed; folds = headline.folds };
+          spent = record {
+            txs = headline.txs;
+            handed_in = subst (λ h. AreHandedIn submissions (committed h) headline.txs) same_history headline.committed;
+            folds = headline.folds;
+          };
         };
         done = all_done;
         coins = refl;

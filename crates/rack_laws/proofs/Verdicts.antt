@@ -1,5 +1,6 @@
 -- A verdict file is read in one way.
-use Rattle.std.proofs.Common.{◌≡◌, inl, inr, ℕ, Bool, List, [], ◌∷◌, ◌++◌, reverse, Option, Some, None, Ok, Err, refl, sym, ◌∙◌, ap, subst, append_assoc}
+use Rattle.std.proofs.Common.{◌≡◌, inl, inr, ℕ, Bool, List, [], ◌∷◌, ◌++◌, reverse, Option, Some, None, Ok, Err, refl, sym, ◌∙◌, ap, subst}
+use Rattle.std.proofs.Common.{append_assoc}
 use Rattle.std.specs.Prelude.{IsSome}
 use Rattle.std.proofs.lemmas.Bool.{true≢false}
 use Rattle.std.proofs.lemmas.List.{reverse-append, reverse-reverse}
@@ -25,7 +26,8 @@ forward (l ∷ later) = spelled l ++ 10 ∷ forward later
 
 forward_both : (ks ls : List Line) → forward (ks ++ ls) ≡ forward ks ++ forward ls
 forward_both [] ls = refl
-forward_both (k ∷ ks) ls = ap (λ (t : List ℕ). spelled k ++ 10 ∷ t) (forward_both ks ls) ∙ sym (append_assoc (spelled k) (10 ∷ forward ks) (forward ls))
+forward_both (k ∷ ks) ls = ap (λ (t : List ℕ). spelled k ++ 10 ∷ t) (forward_both ks ls)
+    ∙ sym (append_assoc (spelled k) (10 ∷ forward ks) (forward ls))
 
 last_first : (l : Line) (earlier : List Line) → reverse (l ∷ earlier) ≡ reverse earlier ++ l ∷ []
 last_first l earlier = reverse-append (l ∷ []) earlier
@@ -33,7 +35,8 @@ last_first l earlier = reverse-append (l ∷ []) earlier
 text_forward : (lines : List Line) → text lines ≡ forward (reverse lines)
 text_forward [] = refl
 text_forward (l ∷ earlier) =
-    ap (λ (t : List ℕ). t ++ (spelled l ++ 10 ∷ [])) (text_forward earlier) ∙ sym (forward_both (reverse earlier) (l ∷ [])) ∙ ap forward (sym (last_first l earlier))
+    ap (λ (t : List ℕ). t ++ (spelled l ++ 10 ∷ [])) (text_forward earlier) ∙ sym (forward_both (reverse earlier) (l ∷ []))
+    ∙ ap forward (sym (last_first l earlier))
 
 abbrev Each : List Line → Type 0
 Each [] = Unit {0}
@@ -67,7 +70,8 @@ go_on (k ∷ ks) (m ∷ ms) rest one other same =
     let later = go_on ks ms rest one.1 other.1 first.1 in
     record { behind = later.behind; parts = ap (λ (l : Line). l ∷ ks) line ∙ ap (λ (ls : List Line). m ∷ ls) later.parts; rest_is = later.rest_is }
 
-begins_on : (bytes : List ℕ) (ks ms : List Line) (rest : List ℕ) → BeginsWithLines bytes ks [] → BeginsWithLines bytes ms rest → GoOn (reverse ks) (reverse ms) rest
+begins_on : (bytes : List ℕ) (ks ms : List Line) (rest : List ℕ) → BeginsWithLines bytes ks [] → BeginsWithLines bytes ms rest
+    → GoOn (reverse ks) (reverse ms) rest
 begins_on bytes ks ms rest whole part =
     go_on (reverse ks) (reverse ms) rest (each_of ks whole.sound) (each_of ms part.sound)
     (sym (text_forward ks) ∙ ends (text ks) ∙ sym whole.whole ∙ part.whole ∙ ap (λ (t : List ℕ). t ++ rest) (text_forward ms))
@@ -85,7 +89,8 @@ older (l ∷ newer) past are = older newer past are.2
 not_said : (ks ms : List Line) (l : Line) (more : List Line) → AreLines ks → reverse ks ≡ reverse ms ++ l ∷ more → said ms l.tx l.index ≡ None
 not_said ks ms l more are parts =
     let back : ks ≡ (reverse more ++ l ∷ []) ++ ms =
-    sym (reverse-reverse ks) ∙ ap reverse parts ∙ reverse-append (reverse ms) (l ∷ more) ∙ ap (λ (ls : List Line). ls ++ reverse (reverse ms)) (last_first l more)
+    sym (reverse-reverse ks) ∙ ap reverse parts ∙ reverse-append (reverse ms) (l ∷ more)
+    ∙ ap (λ (ls : List Line). ls ++ reverse (reverse ms)) (last_first l more)
     ∙ ap (λ (ls : List Line). (reverse more ++ l ∷ []) ++ ls) (reverse-reverse ms) in
     let whole : ks ≡ reverse more ++ l ∷ ms = back ∙ append_assoc (reverse more) (l ∷ []) ms in
     (older (reverse more) (l ∷ ms) (subst AreLines whole are)).1
@@ -94,13 +99,15 @@ not_said ks ms l more are parts =
 
 module _ (more : Bool) (bytes : List ℕ) where
   -- two readings tell the same verdicts
-  pub told_once : (file other : VerdictFile) → ReadsVerdicts more bytes (Ok file) → ReadsVerdicts more bytes (Ok other) → file_verdict file ≡ file_verdict other
+  pub told_once : (file other : VerdictFile) → ReadsVerdicts more bytes (Ok file) → ReadsVerdicts more bytes (Ok other)
+      → file_verdict file ≡ file_verdict other
   told_once file other one two =
       let (ks, whole, says) = one.1 in
       let (ms, part, tells) = two.1 in
       let on = begins_on bytes ks ms [] whole part in
       let none : on.behind ≡ [] = empty on.behind (sym on.rest_is) in
-      let same : ks ≡ ms = sym (reverse-reverse ks) ∙ ap reverse (on.parts ∙ ap (λ (ls : List Line). reverse ms ++ ls) none ∙ nothing (reverse ms)) ∙ reverse-reverse ms in
+      let same : ks ≡ ms = sym (reverse-reverse ks) ∙ ap reverse (on.parts ∙ ap (λ (ls : List Line). reverse ms ++ ls) none ∙ nothing (reverse ms))
+      ∙ reverse-reverse ms in
       λ i tx index. verdict_by ((says tx index ∙ ap (λ (ls : List Line). said ls tx index) same ∙ sym (tells tx index)) i)
     where
       nothing : (ls : List Line) → ls ++ [] ≡ ls
@@ -121,7 +128,8 @@ module _ (more : Bool) (bytes : List ℕ) where
       let (ks, whole, says) = one.1 in
       let (ms, rest, part, number, wrong) = two in
       let on = begins_on bytes ks ms rest whole part in
-      go ks ms rest whole.sound on.behind (each_behind (reverse ms) on.behind (subst Each on.parts (each_of ks whole.sound))) on.parts on.rest_is bad.kind wrong
+      go ks ms rest whole.sound on.behind (each_behind (reverse ms) on.behind (subst Each on.parts (each_of ks whole.sound))) on.parts on.rest_is
+      bad.kind wrong
     where
       each_behind : (ls behind : List Line) → Each (ls ++ behind) → Each behind
       each_behind [] behind each = each
@@ -135,12 +143,14 @@ module _ (more : Bool) (bytes : List ℕ) where
       nowhere [] t is = cc
       nowhere (x ∷ s) t is = cc
 
-      go : (ks ms : List Line) (rest : List ℕ) → AreLines ks → (behind : List Line) → Each behind → reverse ks ≡ reverse ms ++ behind → rest ≡ forward behind → (kind : InputKind) → IsLineWrong more ms rest kind → ⊥
+      go : (ks ms : List Line) (rest : List ℕ) → AreLines ks → (behind : List Line) → Each behind → reverse ks ≡ reverse ms ++ behind
+          → rest ≡ forward behind → (kind : InputKind) → IsLineWrong more ms rest kind → ⊥
       go ks ms rest are [] each parts at Form wrong = wrong.0 at
       go ks ms rest are (l ∷ behind) each parts at Form wrong = wrong.2 l (forward behind) each.0 at
       go ks ms rest are [] each parts at Repeated wrong = nowhere (spelled wrong.0) wrong.1 (sym at ∙ wrong.3)
       go ks ms rest are (l ∷ behind) each parts at Repeated wrong =
-          let first = first_part 10 (spelled l) (spelled wrong.0) (forward behind) wrong.1 (line_free l each.0) (line_free wrong.0 wrong.2) (sym at ∙ wrong.3) in
+          let first = first_part 10 (spelled l) (spelled wrong.0) (forward behind) wrong.1 (line_free l each.0) (line_free wrong.0 wrong.2)
+          (sym at ∙ wrong.3) in
           let line : l ≡ wrong.0 = spelled_once l wrong.0 each.0 wrong.2 first.0 in
           some (said ms l.tx l.index) (not_said ks ms l behind are parts) (subst (λ (k : Line). IsSome (said ms k.tx k.index)) (sym line) wrong.4)
       go ks ms rest are behind each parts at _ wrong = wrong
@@ -151,7 +161,8 @@ module _ (more : Bool) (bytes : List ℕ) where
 
 -- ---- a verdict file that is told
 
-module _ (files : Text → Option (List ℕ)) (before now : Text → ℕ) (name : Text) (known : VerdictFile) (holds : HoldsVerdicts files before now name known) where
+module _ (files : Text → Option (List ℕ)) (before now : Text → ℕ) (name : Text) (known : VerdictFile)
+    (holds : HoldsVerdicts files before now name known) where
   pub verdicts_once : (read : VerdictFile) → AreVerdicts (files name) read → file_verdict read ≡ file_verdict known
   verdicts_once read are = told_once (goes_on holds.bytes) (front holds.bytes) read known (are holds.bytes holds.told) holds.reads
 

@@ -19,7 +19,8 @@ limit_at device None = 0
 limit_at device (Some d) = device.limit d
 
 -- each node's disk of the ledger tells its content, which opens to its journal, and the journals are kept
-pub record ShowsKept {D : Type 0} (device : Ghosts D) (held : ℕ → Option D) (K : Shape) (mint : List Output) (submissions : List FullTx) (E : ℕ → List Record) : Type 0 where
+pub record ShowsKept {D : Type 0} (device : Ghosts D) (held : ℕ → Option D) (K : Shape) (mint : List Output) (submissions : List FullTx)
+    (E : ℕ → List Record) : Type 0 where
   pub limits : IsWithinLimits K
   pub shown : Shows device held K (genesis_id mint) E
   pub kept : KeptJournals K mint submissions E

@@ -21,7 +21,8 @@ Shows {D} device held K genesis J = (n : ℕ) → n < node_count K
 
 -- whatever a crash may leave of a node's disk that is told opens to this journal of the ledger
 abbrev pub Stores : {D : Type 0} → Ghosts D → (ℕ → Option D) → Shape → Digest → (ℕ → List Record) → Type 0
-Stores device held K genesis J = (n : ℕ) → n < node_count K → OfTold (held n) (λ d. (c : List ℕ) → device.images d c → IsNodeJournal (header_of K genesis n) (J n) c)
+Stores device held K genesis J = (n : ℕ) → n < node_count K
+    → OfTold (held n) (λ d. (c : List ℕ) → device.images d c → IsNodeJournal (header_of K genesis n) (J n) c)
 
 -- of whatever ledger the rack shows whose journals are kept (of whatever mint and submissions), this holds
 abbrev pub OfShown : {D : Type 0} → Ghosts D → (ℕ → Option D) → (Shape → List Output → List FullTx → (ℕ → List Record) → Type 0) → Type 0

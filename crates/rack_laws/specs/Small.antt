@@ -25,5 +25,6 @@ HasNewRoom K m capacity count =
 
 -- on a new ledger that is room enough, and there are stamps enough
 abbrev pub NewRoomLaw : Type 0
-NewRoomLaw = (K : Shape) (m : Minted) (sound : FullTx → Bool) (capacity : ℕ → ℕ) (files : List (List FullTx)) → IsWithinLimits K → AllSmall files → all_txs files ≤ 2 ^ 54 → HasNewRoom K m capacity (all_txs files)
+NewRoomLaw = (K : Shape) (m : Minted) (sound : FullTx → Bool) (capacity : ℕ → ℕ) (files : List (List FullTx)) → IsWithinLimits K → AllSmall files
+    → all_txs files ≤ 2 ^ 54 → HasNewRoom K m capacity (all_txs files)
     → Ample K sound capacity files (λ n. journal n (first_rows K m))

@@ -28,13 +28,16 @@ module _ {D : Type 0} (device : Ghosts D) (held : ℕ → Option D) (h : Header)
   is_audited v has = record {
     shape = h.shape;
     rows = has.rows;
-    history = subst (λ (g : Digest). IsToldHistory device held h.shape g has.rows) minted (told_history device held h logs shards are has.rows has.merged);
+    history = subst (λ (g : Digest). IsToldHistory device held h.shape g has.rows) minted
+        (told_history device held h logs shards are has.rows has.merged);
     is = has.is;
   }
 
-  pub audited_room : (now : ℕ → Option D) → ByPlace (λ n l. OfTold (now n) (λ d. d ≡ l.disk)) logs → ByPlace (λ s x. OfTold (now (length logs + s)) (λ d. d ≡ x.disk)) shards
+  pub audited_room : (now : ℕ → Option D) → ByPlace (λ n l. OfTold (now n) (λ d. d ≡ l.disk)) logs
+      → ByPlace (λ s x. OfTold (now (length logs + s)) (λ d. d ≡ x.disk)) shards
       → (v : Verdict) → HasAuditVerdict h.shape (listed_journals logs shards) mint handed v
-      → (was : IsAudited device held mint handed v) × HistoryHasRoom device held was.shape was.rows × HistoryIsHeld device held now was.shape (genesis_id mint) was.rows
+      → (was : IsAudited device held mint handed v) × HistoryHasRoom device held was.shape was.rows
+      × HistoryIsHeld device held now was.shape (genesis_id mint) was.rows
   unfolding is_audited
   audited_room now closed_logs closed_shards v has =
       let logs_own = log_journal logs shards has.rows has.merged in
@@ -47,7 +50,8 @@ module _ {D : Type 0} (device : Ghosts D) (held : ℕ → Option D) (h : Header)
       )
 
 -- what the walk over the history says
-pub has_verdict : {E : Type 0} (K : Shape) (all js : List (List Record)) (h : List Place) (mint : List Output) (handed : List FullTx) → AreMerged js (rows_at all h) → (r : Result Verdict E)
+pub has_verdict : {E : Type 0} (K : Shape) (all js : List (List Record)) (h : List Place) (mint : List Output) (handed : List FullTx)
+    → AreMerged js (rows_at all h) → (r : Result Verdict E)
     → IfOk r (IsVerdict K mint handed (rows_at all h)) → IfOk r (HasAuditVerdict K js mint handed)
 has_verdict K all js h mint handed merged (Ok v) is = record { rows = rows_at all h; merged = merged; is = is }
 has_verdict K all js h mint handed merged (Err e) is = tt
@@ -57,8 +61,12 @@ module _ {D : Type 0} (device : Ghosts D) (held : ℕ → Option D) where
   pub has_one_verdict : HasOneVerdict device held
   has_one_verdict mint handed v w one other tell =
       let shape : one.shape ≡ other.shape = same_shape device held one.shape other.shape _ _ one.rows other.rows one.history other.history tell in
-      let rows : one.rows ≡ other.rows = sym (reverse-reverse one.rows) ∙ ap reverse (same_rows device held one.shape other.shape _ _ one.rows other.rows one.history other.history tell) ∙ reverse-reverse other.rows in
-      one_verdict other.shape mint handed other.rows v w (subst (λ K. IsVerdict K mint handed other.rows v) shape (subst (λ (r : List Row). IsVerdict one.shape mint handed r v) rows one.is)) other.is
+      let rows : one.rows ≡ other.rows = sym (reverse-reverse one.rows)
+      ∙ ap reverse (same_rows device held one.shape other.shape _ _ one.rows other.rows one.history other.history tell)
+      ∙ reverse-reverse other.rows in
+      one_verdict other.shape mint handed other.rows v w
+      (subst (λ K. IsVerdict K mint handed other.rows v) shape (subst (λ (r : List Row). IsVerdict one.shape mint handed r v) rows one.is))
+      other.is
 
   pub verdicts_account : VerdictsAccount device held
   verdicts_account mint handed (Unsound place kind) is = tt
@@ -69,5 +77,6 @@ module _ {D : Type 0} (device : Ghosts D) (held : ℕ → Option D) where
         rows = is.rows;
         history = is.history;
         accounted = λ begin clean each.
-            account is.shape mint handed is.rows totals (omega (arith, history.limits.some_shard)) (record { nodes = history.journals; others = history.others }) history.ordered begin clean each is.is;
+            account is.shape mint handed is.rows totals (omega (arith, history.limits.some_shard))
+            (record { nodes = history.journals; others = history.others }) history.ordered begin clean each is.is;
       }

@@ -15,12 +15,14 @@ use Rattle.rack_ledgers.proofs.CausedTold.{told_history}
 
 module _ {D : Type 0} (device : Ghosts D) (held : ℕ → Option D) (K L : Shape) (g k : Digest) (rows more : List Row)
     (one : IsToldHistory device held K g rows) (other : IsToldHistory device held L k more) (tell : AllTell device held K) where
-  same_at : (n : ℕ) → n < K.coordinators + K.shards → n < L.coordinators + L.shards → (header_of K g n ≡ header_of L k n) × (journal n (reverse rows) ≡ journal n (reverse more))
+  same_at : (n : ℕ) → n < K.coordinators + K.shards → n < L.coordinators + L.shards
+      → (header_of K g n ≡ header_of L k n) × (journal n (reverse rows) ≡ journal n (reverse more))
   same_at n low low' =
       let t = tell n low in
       let a = one.opened n low t.0 t.1 t.2.0 t.2.1 in
       let b = other.opened n low' t.0 t.1 t.2.0 t.2.1 in
-      opens_once_law (header_of K g n) (header_of L k n) (journal n (reverse rows)) (journal n (reverse more)) t.2.0 one.limits other.limits a.journal b.journal a.opens b.opens
+      opens_once_law (header_of K g n) (header_of L k n) (journal n (reverse rows)) (journal n (reverse more)) t.2.0 one.limits other.limits
+      a.journal b.journal a.opens b.opens
 
   pub same_shape : K ≡ L
   same_shape = ap (λ h. h.shape) (same_at 0 (omega (arith, one.limits.some_coordinator)) (omega (arith, other.limits.some_coordinator))).0
@@ -44,7 +46,8 @@ caused_behind K (x ∷ xs) ys all = caused_behind K xs ys all.1
 pub none_uncaused : (K : Shape) (rows : List Row) (place : ℕ) → AllCaused K (reverse rows) → IsFirstUncaused K rows place → ⊥
 none_uncaused K rows place all first =
     let turned : reverse rows ≡ reverse first.after ++ first.row ∷ reverse first.before =
-    ap reverse first.rows_are ∙ reverse-append first.before (first.row ∷ first.after) ∙ ap (λ (l : List Row). l ++ reverse first.before) (reverse-append (first.row ∷ []) first.after)
+    ap reverse first.rows_are ∙ reverse-append first.before (first.row ∷ first.after)
+    ∙ ap (λ (l : List Row). l ++ reverse first.before) (reverse-append (first.row ∷ []) first.after)
     ∙ append_assoc (reverse first.after) (first.row ∷ []) (reverse first.before) in
     first.uncaused (caused_behind K (reverse first.after) (first.row ∷ reverse first.before) (subst (AllCaused K) turned all)).0
 
@@ -52,6 +55,9 @@ pub not_both : {D : Type 0} (device : Ghosts D) (held : ℕ → Option D) (cause
     → AllTell device held caused.shape → IsUnsound device held a → ⊥
 not_both device held caused a tell un =
     let theirs = told_history device held un.header un.logs un.shards un.opened un.uncaused.rows un.uncaused.merged in
-    let shape = same_shape device held caused.shape un.header.shape caused.genesis un.header.genesis caused.rows un.uncaused.rows caused.history theirs tell in
-    let rows = same_rows device held caused.shape un.header.shape caused.genesis un.header.genesis caused.rows un.uncaused.rows caused.history theirs tell in
-    none_uncaused un.header.shape un.uncaused.rows un.place (subst (λ (K : Shape). AllCaused K (reverse un.uncaused.rows)) shape (subst (AllCaused caused.shape) rows caused.caused)) un.uncaused.first
+    let shape = same_shape device held caused.shape un.header.shape caused.genesis un.header.genesis caused.rows un.uncaused.rows caused.history
+    theirs tell in
+    let rows = same_rows device held caused.shape un.header.shape caused.genesis un.header.genesis caused.rows un.uncaused.rows caused.history theirs
+    tell in
+    none_uncaused un.header.shape un.uncaused.rows un.place
+    (subst (λ (K : Shape). AllCaused K (reverse un.uncaused.rows)) shape (subst (AllCaused caused.shape) rows caused.caused)) un.uncaused.first

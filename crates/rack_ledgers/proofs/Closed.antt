@@ -16,7 +16,8 @@ module _ {D : Type 0} (device : Ghosts D) where
       → ByPlace (λ n l. OfTold (now n) (λ d. d ≡ l.disk)) logs → ByPlace (λ s x. OfTold (now (length logs + s)) (λ d. d ≡ x.disk)) shards
       → (n : ℕ) → n < length logs + length shards → IsUnchanged device (held n) (now n)
   nodes_same held now h logs shards opened closed_logs closed_shards n lt =
-      each_node device held h logs shards opened (λ (k : ℕ) (x : NodeOf D). OfTold (now k) (λ d. d ≡ x.disk)) (λ (k : ℕ). IsUnchanged device (held k) (now k))
+      each_node device held h logs shards opened (λ (k : ℕ) (x : NodeOf D). OfTold (now k) (λ d. d ≡ x.disk))
+      (λ (k : ℕ). IsUnchanged device (held k) (now k))
       (λ k x is put. same_opened device (λ y. y.disk) (StandsNode device IsAny) (held k) (now k) x is.opened put)
       closed_logs closed_shards n (omega (arith, lt, opened.coordinators, opened.shards_are))
 

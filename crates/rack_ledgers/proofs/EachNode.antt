@@ -45,7 +45,8 @@ module _ {D : Type 0} (device : Ghosts D) (held : ℕ → Option D) (h : Header)
         let k : ℕ = n - h.shape.coordinators in
         let place : h.shape.coordinators + k ≡ n = omega (arith, high) in
         elim ((slice_get_cases shards k).1) [
-          | inl here ↦ subst P place (step (h.shape.coordinators + k) here.0 (any_at IsShardHeader (h.shape.coordinators + k) here.0 (are.shards_at k here.0 here.2))
+          | inl here ↦ subst P place (step (h.shape.coordinators + k) here.0
+              (any_at IsShardHeader (h.shape.coordinators + k) here.0 (are.shards_at k here.0 here.2))
               (subst (λ (m : ℕ). Q (m + k) here.0) are.coordinators (of_shards k here.0 here.2)))
           | inr past ↦ absurd (omega (arith, past.0, inside, place, are.shards_are))
         ]

@@ -14,8 +14,10 @@ module _ {D : Type 0} (tells : D → Bool) (moment : D → ℕ) (since : D → �
       → (HoldsRows (device.content mid) (device.images mid) gate [] → Leaves tells moment since device.images mid new (OpensWithOrWithout [] body))
       → HoldsRows (device.content old) (device.images old) 0 [] → Leaves tells moment since device.images old new (OpensWithOrWithout [] body)
   appended old mid new gate body same at leaves stands =
-      let here : HoldsRows (device.content old) (device.images old) gate [] = subst (λ (n : ℕ). HoldsRows (device.content old) (device.images old) n []) (sym at) stands in
-      subst (λ (d : D). Leaves tells moment since device.images d new (OpensWithOrWithout [] body)) same (leaves (subst (λ (d : D). HoldsRows (device.content d) (device.images d) gate []) (sym same) here))
+      let here : HoldsRows (device.content old) (device.images old) gate [] =
+      subst (λ (n : ℕ). HoldsRows (device.content old) (device.images old) n []) (sym at) stands in
+      subst (λ (d : D). Leaves tells moment since device.images d new (OpensWithOrWithout [] body)) same
+      (leaves (subst (λ (d : D). HoldsRows (device.content d) (device.images d) gate []) (sym same) here))
 
 -- a journal of no body has no first row
 none_stored : (before : List ℕ → Type 0) (body bytes : List ℕ) → OpensWithOrWithout [] body bytes → IsFirstStored before body bytes
@@ -25,8 +27,11 @@ none_stored before body bytes opens = ⊎_elim
     opens
 
 -- a body behind a disk that was made ready for it
-pub formatted : {D : Type 0} (tells : D → Bool) (moment : D → ℕ) (since : D → ℕ → List ℕ → Type 0) (device : Ghosts D) (old mid new : D) (body : List ℕ) → Leaves tells moment since device.images old mid (IsEmptied (device.images old))
-    → Leaves tells moment since device.images mid new (OpensWithOrWithout [] body) → Leaves tells moment since device.images old new (IsFirstStored (device.images old) body)
+pub formatted : {D : Type 0} (tells : D → Bool) (moment : D → ℕ) (since : D → ℕ → List ℕ → Type 0) (device : Ghosts D) (old mid new : D)
+    (body : List ℕ) → Leaves tells moment since device.images old mid (IsEmptied (device.images old))
+    → Leaves tells moment since device.images mid new (OpensWithOrWithout [] body)
+    → Leaves tells moment since device.images old new (IsFirstStored (device.images old) body)
 formatted tells moment since device old mid new body first second =
     goes_further tells moment since device.images old mid new (IsEmptied (device.images old)) (IsFirstStored (device.images old) body) first
-    (weakened tells moment since device.images mid new (OpensWithOrWithout [] body) (IsFirstStored (device.images old) body) second (λ c is. none_stored (device.images old) body c is)) (λ c is. inl is)
+    (weakened tells moment since device.images mid new (OpensWithOrWithout [] body) (IsFirstStored (device.images old) body) second
+    (λ c is. none_stored (device.images old) body c is)) (λ c is. inl is)

@@ -12,16 +12,20 @@ taken_one can_take here others (suc n) = others (suc n) (omega arith)
 
 module _ {D : Type 0} (device : Ghosts D) (before after : ℕ → ℕ) where
   -- that of node 0, where no other was touched
-  pub back_one : (old now : ℕ → Option D) → IsDiskBack device (before 0) (after 0) (old 0) (now 0) → ((n : ℕ) → n ≢ 0 → now n ≡ old n) → AreDisksBack device (record { held = old; faults = before }) (record { held = now; faults = after })
+  pub back_one : (old now : ℕ → Option D) → IsDiskBack device (before 0) (after 0) (old 0) (now 0) → ((n : ℕ) → n ≢ 0 → now n ≡ old n)
+      → AreDisksBack device (record { held = old; faults = before }) (record { held = now; faults = after })
   back_one old now here others n = ⊎_elim
       (λ (same : n ≡ 0). subst (λ (k : ℕ). IsDiskBack device (before k) (after k) (old k) (now k)) (sym same) here)
       (λ (differs : n ≢ 0). back_same device (before n) (after n) (old n) (now n) (others n differs))
       (cases_eq n 0)
 
   -- those before a place, those from there up to another within a part of the time, and those behind, which are untouched
-  pub back_parts : (between till : ℕ → ℕ) (old mid now : ℕ → Option D) (first end : ℕ) → ((n : ℕ) → before n ≤ between n) → ((n : ℕ) → till n ≤ after n) → ((n : ℕ) → first ≤ n → mid n ≡ old n)
-      → ((n : ℕ) → n < first → IsDiskBack device (before n) (after n) (old n) (now n)) → ((n : ℕ) → first ≤ n → n < end → IsDiskBack device (between n) (till n) (mid n) (now n))
-      → ((n : ℕ) → first ≤ n → end ≤ n → now n ≡ mid n) → AreDisksBack device (record { held = old; faults = before }) (record { held = now; faults = after })
+  pub back_parts : (between till : ℕ → ℕ) (old mid now : ℕ → Option D) (first end : ℕ) → ((n : ℕ) → before n ≤ between n)
+      → ((n : ℕ) → till n ≤ after n) → ((n : ℕ) → first ≤ n → mid n ≡ old n)
+      → ((n : ℕ) → n < first → IsDiskBack device (before n) (after n) (old n) (now n))
+      → ((n : ℕ) → first ≤ n → n < end → IsDiskBack device (between n) (till n) (mid n) (now n))
+      → ((n : ℕ) → first ≤ n → end ≤ n → now n ≡ mid n)
+      → AreDisksBack device (record { held = old; faults = before }) (record { held = now; faults = after })
   back_parts between till old mid now first end later ends kept front inside past n = elim (cases_lt n first) [
     | inl small ↦ front n small
     | inr large ↦ elim (cases_lt n end) [

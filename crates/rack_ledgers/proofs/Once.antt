@@ -20,9 +20,11 @@ bodies_reversed (r ∷ J) =
     ∙ sym (reverse-append (body_of r ∷ []) (bodies_of J))
 
 -- two records of the grammar with one body are one
-pub same_record : (h k : Header) (q r : Record) → IsWithinLimits h.shape → IsWithinLimits k.shape → IsInGrammar h q → IsInGrammar k r → body_of q ≡ body_of r → q ≡ r
+pub same_record : (h k : Header) (q r : Record) → IsWithinLimits h.shape → IsWithinLimits k.shape → IsInGrammar h q → IsInGrammar k r
+    → body_of q ≡ body_of r → q ≡ r
 same_record h k q r low low' one other same =
-    ap (λ (x : Record × List ℕ). x.0) (ok_is (q, []) (r, []) (sym (is_read h (body_of q) q low (refl, one)) ∙ ap body_at same ∙ is_read k (body_of r) r low' (refl, other)))
+    ap (λ (x : Record × List ℕ). x.0) (ok_is (q, []) (r, [])
+    (sym (is_read h (body_of q) q low (refl, one)) ∙ ap body_at same ∙ is_read k (body_of r) r low' (refl, other)))
 
 heads : (x y : List ℕ) (xs ys : List (List ℕ)) → x ∷ xs ≡ y ∷ ys → (x ≡ y) × (xs ≡ ys)
 heads x y xs ys e = (cc, cc)
@@ -31,13 +33,16 @@ newest : (h : Header) (r : Record) (J : List Record) → IsJournal h (r ∷ J) �
 newest h r [] j = j.1.0
 newest h r (q ∷ J) j = j.0.0
 
-same_journal : (h k : Header) (J L : List Record) → IsWithinLimits h.shape → IsWithinLimits k.shape → IsJournal h J → IsJournal k L → bodies_of J ≡ bodies_of L → J ≡ L
+same_journal : (h k : Header) (J L : List Record) → IsWithinLimits h.shape → IsWithinLimits k.shape → IsJournal h J → IsJournal k L
+    → bodies_of J ≡ bodies_of L → J ≡ L
 same_journal h k [] L low low' j l e = absurd j
 same_journal h k (q ∷ J) [] low low' j l e = absurd l
 same_journal h k (q ∷ []) (r ∷ []) low low' j l e =
     ap (λ x. x ∷ []) (same_record h k q r low low' (newest h q [] j) (newest k r [] l) (heads (body_of q) (body_of r) [] [] e).0)
-same_journal h k (q ∷ []) (r ∷ (p ∷ L)) low low' j l e = absurd (let z : [] ≡ body_of p ∷ bodies_of L = (heads (body_of q) (body_of r) [] (body_of p ∷ bodies_of L) e).1 in cc)
-same_journal h k (q ∷ (p ∷ J)) (r ∷ []) low low' j l e = absurd (let z : body_of p ∷ bodies_of J ≡ [] = (heads (body_of q) (body_of r) (body_of p ∷ bodies_of J) [] e).1 in cc)
+same_journal h k (q ∷ []) (r ∷ (p ∷ L)) low low' j l e =
+    absurd (let z : [] ≡ body_of p ∷ bodies_of L = (heads (body_of q) (body_of r) [] (body_of p ∷ bodies_of L) e).1 in cc)
+same_journal h k (q ∷ (p ∷ J)) (r ∷ []) low low' j l e =
+    absurd (let z : body_of p ∷ bodies_of J ≡ [] = (heads (body_of q) (body_of r) (body_of p ∷ bodies_of J) [] e).1 in cc)
 same_journal h k (q ∷ (p ∷ J)) (r ∷ (o ∷ L)) low low' j l e =
     let both = heads (body_of q) (body_of r) (bodies_of (p ∷ J)) (bodies_of (o ∷ L)) e in
     let first : q ≡ r = same_record h k q r low low' (newest h q (p ∷ J) j) (newest k r (o ∷ L) l) both.0 in

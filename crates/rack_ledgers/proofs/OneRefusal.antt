@@ -20,7 +20,8 @@ use Rattle.rack_ledgers.proofs.Refusals.{start_first, genesis_first}
 use Rattle.rack_ledgers.proofs.Fronts.{Begins, Fronts, split, journal_begins, one_journal, has_first, whole_fronts, damaged_fronts, whole_or_cut}
 use Rattle.rack_ledgers.specs.Refusals.{OneRefusal, NoRefusal, OneRefusalLaw, NoRefusalLaw}
 
-same_full : (used used' need need' capacity capacity' : ℕ) → used ≡ used' → need ≡ need' → capacity ≡ capacity' → Full used need capacity ≡ Full used' need' capacity'
+same_full : (used used' need need' capacity capacity' : ℕ) → used ≡ used' → need ≡ need' → capacity ≡ capacity'
+    → Full used need capacity ≡ Full used' need' capacity'
 same_full used used' need need' capacity capacity' one two three = cc
 
 module _ (Mine : Header → Type 0) (Other : Record → Type 0) (other_first : (r : Record) → Other r → BeginsJournal r)
@@ -29,16 +30,19 @@ module _ (Mine : Header → Type 0) (Other : Record → Type 0) (other_first : (
   other_begins bytes has = record { what = has.what; more = has.more; parts = has.parts; behind = has.behind; has = other_first has.what has.has }
 
   -- the first record of the other kind stands in front of no such journal
-  no_other_row : (h : Header) (R : List Record) (rest bytes : List ℕ) → IsWithinLimits h.shape → Mine h → Begins h R → bytes ≡ rows (bodies_of R) ++ rest → HasRow Other bytes → ⊥
+  no_other_row : (h : Header) (R : List Record) (rest bytes : List ℕ) → IsWithinLimits h.shape → Mine h → Begins h R
+      → bytes ≡ rows (bodies_of R) ++ rest → HasRow Other bytes → ⊥
   no_other_row h [] rest bytes limits mine begins parts has = begins
   no_other_row h (x ∷ R) rest bytes limits mine begins parts has =
       let behind : row (body_of has.what) ++ has.more ≡ row (body_of x) ++ (rows (bodies_of R) ++ rest) = sym has.parts ∙ parts ∙ split x R rest in
-      let both = row_once (body_of has.what) (body_of x) has.more (rows (bodies_of R) ++ rest) (first_small has.what (other_first has.what has.has)) (body_small h x limits begins.1.0.0)
+      let both = row_once (body_of has.what) (body_of x) has.more (rows (bodies_of R) ++ rest) (first_small has.what (other_first has.what has.has))
+      (body_small h x limits begins.1.0.0)
       (tail_is 1 1 (filling (body_of has.what) ++ has.more) (filling (body_of x) ++ (rows (bodies_of R) ++ rest)) behind) in
       apart h has.what x limits mine has.has begins.1.0.0 both.0
 
   not_other : (h : Header) (J : List Record) (rest bytes : List ℕ) → Mine h → Fronts h J rest bytes → HasRow Other bytes → ⊥
-  not_other h J rest bytes mine fronts has = no_other_row h (reverse J) rest bytes fronts.limits mine (journal_begins h J fronts.journal) fronts.parts has
+  not_other h J rest bytes mine fronts has = no_other_row h (reverse J) rest bytes fronts.limits mine (journal_begins h J fronts.journal)
+      fronts.parts has
 
   -- ---- the refusals
 
@@ -49,18 +53,22 @@ module _ (Mine : Header → Type 0) (Other : Record → Type 0) (other_first : (
   cut_fronts at bytes is = damaged_fronts is.header is.journal at bytes is.limits is.is is.cut
 
   never_both : (h : Header) (J : List Record) (at : ℕ) (bytes : List ℕ) → IsJournalOf Mine h J bytes → IsDamagedAt Mine at bytes → ⊥
-  never_both h J at bytes whole cut = whole_or_cut h cut.header J cut.journal at bytes whole.limits whole.journal whole.opens cut.limits cut.is cut.cut
+  never_both h J at bytes whole cut = whole_or_cut h cut.header J cut.journal at bytes whole.limits whole.journal whole.opens cut.limits cut.is
+      cut.cut
 
   one_place : (at other : ℕ) (bytes : List ℕ) → IsDamagedAt Mine at bytes → IsDamagedAt Mine other bytes → at ≡ other
   one_place at other bytes one two =
-      let both = one_journal one.header two.header one.journal two.journal one.cut.rest two.cut.rest bytes (cut_fronts at bytes one) (cut_fronts other bytes two) in
+      let both = one_journal one.header two.header one.journal two.journal one.cut.rest two.cut.rest bytes (cut_fronts at bytes one)
+      (cut_fronts other bytes two) in
       one.cut.place ∙ ap (λ (l : List Record). length (rows (bodies_of (reverse l)))) both.1.0 ∙ sym two.cut.place
 
-  one_full : (limit used used' need need' capacity capacity' : ℕ) (bytes : List ℕ) → IsNoNodeOf Mine Other limit bytes (Full used need capacity) → IsNoNodeOf Mine Other limit bytes (Full used' need' capacity') → Full used need capacity ≡ Full used' need' capacity'
+  one_full : (limit used used' need need' capacity capacity' : ℕ) (bytes : List ℕ) → IsNoNodeOf Mine Other limit bytes (Full used need capacity)
+      → IsNoNodeOf Mine Other limit bytes (Full used' need' capacity') → Full used need capacity ≡ Full used' need' capacity'
   one_full limit used used' need need' capacity capacity' bytes one two =
       let first = one.1 in
       let second = two.1 in
-      let both = one_journal first.header second.header first.journal second.journal first.is.opens.rest second.is.opens.rest bytes (shut_fronts first.header first.journal bytes first.is) (shut_fronts second.header second.journal bytes second.is) in
+      let both = one_journal first.header second.header first.journal second.journal first.is.opens.rest second.is.opens.rest bytes
+      (shut_fronts first.header first.journal bytes first.is) (shut_fronts second.header second.journal bytes second.is) in
       same_full used used' need need' capacity capacity' (first.used_is ∙ ap used_of both.1.0 ∙ sym second.used_is)
       (first.need_is ∙ ap₂ (λ (h : Header) (l : List Record). kept_room h.shape l) both.0 both.1.0 ∙ sym second.need_is) (one.0 ∙ sym two.0)
 
@@ -71,26 +79,39 @@ module _ (Mine : Header → Type 0) (Other : Record → Type 0) (other_first : (
   one_refusal limit bytes NotReady Memory told told' one two = absurd told'
   one_refusal limit bytes NotReady NotReady told told' one two = refl
   one_refusal limit bytes NotReady OtherKind told told' one two = absurd (one (other_begins bytes two))
-  one_refusal limit bytes NotReady (Damaged at) told told' one two = absurd (one (has_first two.header two.journal two.cut.rest bytes (cut_fronts at bytes two)))
-  one_refusal limit bytes NotReady (Full used need capacity) told told' one two = absurd (one (has_first two.1.header two.1.journal two.1.is.opens.rest bytes (shut_fronts two.1.header two.1.journal bytes two.1.is)))
+  one_refusal limit bytes NotReady (Damaged at) told told' one two =
+      absurd (one (has_first two.header two.journal two.cut.rest bytes (cut_fronts at bytes two)))
+  one_refusal limit bytes NotReady (Full used need capacity) told told' one two =
+      absurd (one (has_first two.1.header two.1.journal two.1.is.opens.rest bytes (shut_fronts two.1.header two.1.journal bytes two.1.is)))
   one_refusal limit bytes OtherKind DiskFault told told' one two = absurd told'
   one_refusal limit bytes OtherKind Memory told told' one two = absurd told'
   one_refusal limit bytes OtherKind NotReady told told' one two = absurd (two (other_begins bytes one))
   one_refusal limit bytes OtherKind OtherKind told told' one two = refl
-  one_refusal limit bytes OtherKind (Damaged at) told told' one two = absurd (not_other two.header two.journal two.cut.rest bytes two.kind (cut_fronts at bytes two) one)
-  one_refusal limit bytes OtherKind (Full used need capacity) told told' one two = absurd (not_other two.1.header two.1.journal two.1.is.opens.rest bytes two.1.is.kind (shut_fronts two.1.header two.1.journal bytes two.1.is) one)
+  one_refusal limit bytes OtherKind (Damaged at) told told' one two =
+      absurd (not_other two.header two.journal two.cut.rest bytes two.kind (cut_fronts at bytes two) one)
+  one_refusal limit bytes OtherKind (Full used need capacity) told told' one two =
+      absurd (not_other two.1.header two.1.journal two.1.is.opens.rest bytes two.1.is.kind (shut_fronts two.1.header two.1.journal bytes two.1.is)
+      one)
   one_refusal limit bytes (Damaged at) DiskFault told told' one two = absurd told'
   one_refusal limit bytes (Damaged at) Memory told told' one two = absurd told'
-  one_refusal limit bytes (Damaged at) NotReady told told' one two = absurd (two (has_first one.header one.journal one.cut.rest bytes (cut_fronts at bytes one)))
-  one_refusal limit bytes (Damaged at) OtherKind told told' one two = absurd (not_other one.header one.journal one.cut.rest bytes one.kind (cut_fronts at bytes one) two)
+  one_refusal limit bytes (Damaged at) NotReady told told' one two =
+      absurd (two (has_first one.header one.journal one.cut.rest bytes (cut_fronts at bytes one)))
+  one_refusal limit bytes (Damaged at) OtherKind told told' one two =
+      absurd (not_other one.header one.journal one.cut.rest bytes one.kind (cut_fronts at bytes one) two)
   one_refusal limit bytes (Damaged at) (Damaged other) told told' one two = ap (λ (n : ℕ). Damaged n) (one_place at other bytes one two)
-  one_refusal limit bytes (Damaged at) (Full used need capacity) told told' one two = absurd (never_both two.1.header two.1.journal at bytes two.1.is one)
+  one_refusal limit bytes (Damaged at) (Full used need capacity) told told' one two =
+      absurd (never_both two.1.header two.1.journal at bytes two.1.is one)
   one_refusal limit bytes (Full used need capacity) DiskFault told told' one two = absurd told'
   one_refusal limit bytes (Full used need capacity) Memory told told' one two = absurd told'
-  one_refusal limit bytes (Full used need capacity) NotReady told told' one two = absurd (two (has_first one.1.header one.1.journal one.1.is.opens.rest bytes (shut_fronts one.1.header one.1.journal bytes one.1.is)))
-  one_refusal limit bytes (Full used need capacity) OtherKind told told' one two = absurd (not_other one.1.header one.1.journal one.1.is.opens.rest bytes one.1.is.kind (shut_fronts one.1.header one.1.journal bytes one.1.is) two)
-  one_refusal limit bytes (Full used need capacity) (Damaged at) told told' one two = absurd (never_both one.1.header one.1.journal at bytes one.1.is two)
-  one_refusal limit bytes (Full used need capacity) (Full used' need' capacity') told told' one two = one_full limit used used' need need' capacity capacity' bytes one two
+  one_refusal limit bytes (Full used need capacity) NotReady told told' one two =
+      absurd (two (has_first one.1.header one.1.journal one.1.is.opens.rest bytes (shut_fronts one.1.header one.1.journal bytes one.1.is)))
+  one_refusal limit bytes (Full used need capacity) OtherKind told told' one two =
+      absurd (not_other one.1.header one.1.journal one.1.is.opens.rest bytes one.1.is.kind (shut_fronts one.1.header one.1.journal bytes one.1.is)
+      two)
+  one_refusal limit bytes (Full used need capacity) (Damaged at) told told' one two =
+      absurd (never_both one.1.header one.1.journal at bytes one.1.is two)
+  one_refusal limit bytes (Full used need capacity) (Full used' need' capacity') told told' one two =
+      one_full limit used used' need need' capacity capacity' bytes one two
 
   no_refusal : NoRefusal (IsJournalOf Mine) (IsNoNodeOf Mine Other)
   no_refusal h J limit bytes DiskFault told is room refused = told
@@ -100,8 +121,18 @@ module _ (Mine : Header → Type 0) (Other : Record → Type 0) (other_first : (
   no_refusal h J limit bytes (Damaged at) told is room refused = never_both h J at bytes is refused
   no_refusal h J limit bytes (Full used need capacity) told is room refused =
       let full = refused.1 in
-      let both = one_journal h full.header J full.journal is.opens.rest full.is.opens.rest bytes (shut_fronts h J bytes is) (shut_fronts full.header full.journal bytes full.is) in
-      absurd (omega (arith, room, full.passes, refused.0, full.used_is, full.need_is, ap used_of both.1.0, ap₂ (λ (g : Header) (l : List Record). kept_room g.shape l) both.0 both.1.0))
+      let both = one_journal h full.header J full.journal is.opens.rest full.is.opens.rest bytes (shut_fronts h J bytes is)
+      (shut_fronts full.header full.journal bytes full.is) in
+      absurd (omega (
+        arith,
+        room,
+        full.passes,
+        refused.0,
+        full.used_is,
+        full.need_is,
+        ap used_of both.1.0,
+        ap₂ (λ (g : Header) (l : List Record). kept_room g.shape l) both.0 both.1.0,
+      ))
 
 -- ---- shards and coordinators
 

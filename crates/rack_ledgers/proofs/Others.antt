@@ -12,7 +12,8 @@ outside_part le ge outside = ⊎_elim (λ below. inl (omega (arith, le, below)))
 
 -- all places but one are outside its range
 pub outside_one : {node n : ℕ} → n ≢ node → IsOutsideRange node (node + 1) n
-outside_one {node} {n} differs = ⊎_elim (λ (below : n < node). inl below) (λ (above : node ≤ n). inr (omega (arith, above, differs))) (cases_lt n node)
+outside_one {node} {n} differs = ⊎_elim (λ (below : n < node). inl below) (λ (above : node ≤ n). inr (omega (arith, above, differs)))
+    (cases_lt n node)
 
 module _ {R D : Type 0} {rack : Ghosts R D} where
   -- nothing was done
@@ -25,8 +26,10 @@ module _ {R D : Type 0} {rack : Ghosts R D} where
   }
 
   -- one call at one place
-  pub kept_but : {node : ℕ} {r s : R} → ((n : ℕ) → n ≢ node → rack.held s n ≡ rack.held r n) → ((n : ℕ) → n ≢ node → rack.can_take r n → rack.can_take s n)
-      → ((n k : ℕ) → n ≢ node → rack.can_put r n k → rack.can_put s n k) → ((n : ℕ) → rack.count r n ≤ rack.count s n) → KeepsOthers rack node (node + 1) r s
+  pub kept_but : {node : ℕ} {r s : R} → ((n : ℕ) → n ≢ node → rack.held s n ≡ rack.held r n)
+      → ((n : ℕ) → n ≢ node → rack.can_take r n → rack.can_take s n)
+      → ((n k : ℕ) → n ≢ node → rack.can_put r n k → rack.can_put s n k) → ((n : ℕ) → rack.count r n ≤ rack.count s n)
+      → KeepsOthers rack node (node + 1) r s
   kept_but {node} held takes puts later = record {
     held = λ n outside. held n (not_outside {m = node} outside (omega arith) (omega arith));
     takes = λ n outside can. takes n (not_outside {m = node} outside (omega arith) (omega arith)) can;
@@ -35,7 +38,8 @@ module _ {R D : Type 0} {rack : Ghosts R D} where
   }
 
   -- of a longer range, less is said
-  pub kept_wider : {first behind from end : ℕ} {r s : R} → from ≤ first → behind ≤ end → KeepsOthers rack first behind r s → KeepsOthers rack from end r s
+  pub kept_wider : {first behind from end : ℕ} {r s : R} → from ≤ first → behind ≤ end → KeepsOthers rack first behind r s
+      → KeepsOthers rack from end r s
   kept_wider le ge kept = record {
     held = λ n outside. kept.held n (outside_part le ge outside);
     takes = λ n outside can. kept.takes n (outside_part le ge outside) can;
@@ -44,7 +48,8 @@ module _ {R D : Type 0} {rack : Ghosts R D} where
   }
 
   -- one call after another
-  pub kept_then : {first behind : ℕ} {r s t : R} → KeepsOthers rack first behind r s → KeepsOthers rack first behind s t → KeepsOthers rack first behind r t
+  pub kept_then : {first behind : ℕ} {r s t : R} → KeepsOthers rack first behind r s → KeepsOthers rack first behind s t
+      → KeepsOthers rack first behind r t
   kept_then one other = record {
     held = λ n outside. other.held n outside ∙ one.held n outside;
     takes = λ n outside can. other.takes n outside (one.takes n outside can);

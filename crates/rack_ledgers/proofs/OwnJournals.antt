@@ -23,7 +23,9 @@ module _ {D : Type 0} (device : Ghosts D) (held : ℕ → Option D) (h : Header)
       told_some (device.content was) (IsNodeJournal (header_of h.shape h.genesis n) x.journal c)
       (λ bytes reads.
       let found = (is.opened was told).stands bytes reads in
-      let opens : OpensTo (reverse x.journal) c = subst (λ (o : Option Record). OpensToEither (reverse x.journal) o c) is.flight (found.1.each c (subst (λ (y : D). device.images y c) (put d is_now) image)) in
+      let opens : OpensTo (reverse x.journal) c =
+      subst (λ (o : Option Record). OpensToEither (reverse x.journal) o c) is.flight
+      (found.1.each c (subst (λ (y : D). device.images y c) (put d is_now) image)) in
       let own : IsNodeJournal x.header x.journal c = record { opens = opens; limits = found.0.limits; journal = is.journal; kind = tt } in
       subst (λ (k : Header). IsNodeJournal k x.journal c) is.header own)
       some
@@ -43,7 +45,8 @@ module _ {D : Type 0} (device : Ghosts D) (held : ℕ → Option D) (h : Header)
     pub each_own : (n : ℕ) → n < h.shape.coordinators + h.shape.shards → IsJournal (header_of h.shape h.genesis n) (J n)
     each_own n inside =
         each_node device held h logs shards are IsOwn (λ k. IsJournal (header_of h.shape h.genesis k) (J k))
-        (λ k x is own. subst (λ (past : List Record). IsJournal (header_of h.shape h.genesis k) past) own (subst (λ (g : Header). IsJournal g x.journal) is.header is.journal))
+        (λ k x is own. subst (λ (past : List Record). IsJournal (header_of h.shape h.genesis k) past) own
+        (subst (λ (g : Header). IsJournal g x.journal) is.header is.journal))
         of_logs of_shards n inside
 
     -- what was told of each disk opens to its node's
@@ -64,10 +67,12 @@ module _ {D : Type 0} (device : Ghosts D) (held : ℕ → Option D) (h : Header)
         of_logs of_shards n inside
 
     -- and each that is put back holds it still
-    pub each_holds : (now : ℕ → Option D) → ByPlace (λ n l. OfTold (now n) (λ d. d ≡ l.disk)) logs → ByPlace (λ s x. OfTold (now (length logs + s)) (λ d. d ≡ x.disk)) shards
+    pub each_holds : (now : ℕ → Option D) → ByPlace (λ n l. OfTold (now n) (λ d. d ≡ l.disk)) logs
+        → ByPlace (λ s x. OfTold (now (length logs + s)) (λ d. d ≡ x.disk)) shards
         → (n : ℕ) → n < h.shape.coordinators + h.shape.shards → StillHolds device (held n) (now n) (header_of h.shape h.genesis n) (J n)
     each_holds now closed_logs closed_shards n inside =
         each_node device held h logs shards are (λ k x. OfTold (now k) (λ d. d ≡ x.disk) × IsOwn k x)
         (λ k. StillHolds device (held k) (now k) (header_of h.shape h.genesis k) (J k))
-        (λ k x is closed. subst (λ (past : List Record). StillHolds device (held k) (now k) (header_of h.shape h.genesis k) past) closed.1 (node_holds now k x is closed.0))
+        (λ k x is closed. subst (λ (past : List Record). StillHolds device (held k) (now k) (header_of h.shape h.genesis k) past) closed.1
+        (node_holds now k x is closed.0))
         (λ k x at. (closed_logs k x at, of_logs k x at)) (λ s x at. (closed_shards s x at, of_shards s x at)) n inside

@@ -16,7 +16,8 @@ pub by_place : {N : Type 0} (P : ℕ → N → Type 0) (xs : List N) → EachFro
 by_place P xs all n x is = subst (λ (k : ℕ). P k x) (omega arith) (at_place P 0 xs all n x is)
 
 -- what two properties of each item say of its place
-pub by_two : {N : Type 0} (P Q : ℕ → N → Type 0) (R : ℕ → Type 0) (xs : List N) → ((k : ℕ) (x : N) → P k x → Q k x → R k) → ByPlace P xs → ByPlace Q xs → (n : ℕ) → n < length xs → R n
+pub by_two : {N : Type 0} (P Q : ℕ → N → Type 0) (R : ℕ → Type 0) (xs : List N) → ((k : ℕ) (x : N) → P k x → Q k x → R k) → ByPlace P xs
+    → ByPlace Q xs → (n : ℕ) → n < length xs → R n
 by_two P Q R xs both one other n lt = elim ((slice_get_cases xs n).1) [
   | inl here ↦ both n here.0 (one n here.0 here.2) (other n here.0 here.2)
   | inr past ↦ absurd (omega (arith, past.0, lt))

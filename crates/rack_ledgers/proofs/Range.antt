@@ -9,7 +9,8 @@ pub not_outside : {first end n m : ℕ} → IsOutsideRange first end n → first
 not_outside outside ge lt same = ⊎_elim (λ below. absurd (omega arith)) (λ above. absurd (omega arith)) outside
 
 -- a fault's cause stands for a longer stretch of time
-pub opening_later : (node before mid now later : ℕ) (a : Answer) → before ≤ mid → now ≤ later → IsOpening node mid now a → IsOpening node before later a
+pub opening_later : (node before mid now later : ℕ) (a : Answer) → before ≤ mid → now ≤ later → IsOpening node mid now a
+    → IsOpening node before later a
 opening_later node b m n l (answers.NotReady k) le ge is = is
 opening_later node b m n l (answers.Damaged k at) le ge is = is
 opening_later node b m n l (answers.Full k used need capacity) le ge is = is

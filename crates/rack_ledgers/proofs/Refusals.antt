@@ -25,7 +25,8 @@ use Rattle.rack_ledgers.specs.Asked.{asked_of}
 use Rattle.rack_ledgers.specs.Refused.{IsNodeJournal, IsNoNode, refusal_answer}
 
 -- a refusal is told as one of that node
-pub told_opening : (node before now : ℕ) (f : NodeOpenFault) → (f ≡ faults.DiskFault → Rose before now) → IsOpening node before now (refusal_answer node f)
+pub told_opening : (node before now : ℕ) (f : NodeOpenFault) → (f ≡ faults.DiskFault → Rose before now)
+    → IsOpening node before now (refusal_answer node f)
 told_opening node before now faults.DiskFault rose = (refl, rose refl)
 told_opening node before now faults.NotReady rose = refl
 told_opening node before now faults.OtherKind rose = refl
@@ -39,11 +40,13 @@ of_any Is h J bytes is = record { opens = is.opens; limits = is.limits; journal 
 
 module _ (Is : Header → Type 0) (node : ℕ) (ledger : Option Header) (limit : ℕ) (bytes : List ℕ) (Mine : Header → Type 0) where
   -- why a disk is no node of one kind, but for its kind, is why it is no node that is asked for
-  pub node_refused : (IsOther : Record → Type 0) (f : NodeOpenFault) → f ≢ faults.OtherKind → IsNoNodeOf Mine IsOther limit bytes f → IsNoNode Is node ledger limit bytes (refusal_answer node f)
+  pub node_refused : (IsOther : Record → Type 0) (f : NodeOpenFault) → f ≢ faults.OtherKind → IsNoNodeOf Mine IsOther limit bytes f
+      → IsNoNode Is node ledger limit bytes (refusal_answer node f)
   node_refused IsOther faults.DiskFault other is = refl
   node_refused IsOther faults.NotReady other is = (refl, is)
   node_refused IsOther faults.OtherKind other is = absurd (other refl)
-  node_refused IsOther (faults.Damaged at) other is = (refl, record { header = is.header; journal = is.journal; limits = is.limits; is = is.is; kind = tt; cut = is.cut })
+  node_refused IsOther (faults.Damaged at) other is =
+      (refl, record { header = is.header; journal = is.journal; limits = is.limits; is = is.is; kind = tt; cut = is.cut })
   node_refused IsOther (faults.Full used need capacity) other is = (
     refl,
     is.0,
@@ -59,7 +62,8 @@ module _ (Is : Header → Type 0) (node : ℕ) (ledger : Option Header) (limit :
   node_refused IsOther faults.Memory other is = tt
 
   -- a node of one kind with another header, or of the other kind
-  pub other_node : (kept : Header) (J : List Record) → IsJournalOf Mine kept J bytes → used_of J + kept_room kept.shape J ≤ limit → (kept ≢ asked_of node ledger kept) ⊎ (Is kept → ⊥)
+  pub other_node : (kept : Header) (J : List Record) → IsJournalOf Mine kept J bytes → used_of J + kept_room kept.shape J ≤ limit
+      → (kept ≢ asked_of node ledger kept) ⊎ (Is kept → ⊥)
       → IsNoNode Is node ledger limit bytes (answers.Foreign node kept (asked_of node ledger kept))
   other_node kept J is fits differs = (refl, refl, record { journal = J; is = of_any Mine kept J bytes is; fits = fits; differs = differs })
 
@@ -82,18 +86,22 @@ not_both_kinds bytes start genesis =
     let g_first = genesis_first genesis.what genesis.has in
     let same : filling (body_of start.what) ++ start.more ≡ filling (body_of genesis.what) ++ genesis.more =
     tail_is 1 1 (filling (body_of start.what) ++ start.more) (filling (body_of genesis.what) ++ genesis.more) (sym start.parts ∙ genesis.parts) in
-    let bodies = (row_once (body_of start.what) (body_of genesis.what) start.more genesis.more (first_small start.what s_first) (first_small genesis.what g_first) same).0 in
+    let bodies = (row_once (body_of start.what) (body_of genesis.what) start.more genesis.more (first_small start.what s_first)
+    (first_small genesis.what g_first) same).0 in
     let one : start.what ≡ genesis.what = one_first start.what genesis.what s_first g_first bodies in
     one_kind genesis.what (subst IsStart one start.has) genesis.has
 
 -- a header that is kept, told in an answer
-pub told_foreign : (Is : Header → Type 0) (node : ℕ) (ledger : Option Header) (limit : ℕ) (bytes : List ℕ) (kept h : Header) (a : Answer) → kept ≡ h → a ≡ answers.Foreign node kept (asked_of node ledger kept)
+pub told_foreign : (Is : Header → Type 0) (node : ℕ) (ledger : Option Header) (limit : ℕ) (bytes : List ℕ) (kept h : Header) (a : Answer) → kept ≡ h
+    → a ≡ answers.Foreign node kept (asked_of node ledger kept)
     → IsNoNode Is node ledger limit bytes (answers.Foreign node h (asked_of node ledger h)) → IsNoNode Is node ledger limit bytes a
 told_foreign Is node ledger limit bytes kept h a same is refused =
-    subst (λ (x : Answer). IsNoNode Is node ledger limit bytes x) (sym is) (subst (λ (k : Header). IsNoNode Is node ledger limit bytes (answers.Foreign node k (asked_of node ledger k))) (sym same) refused)
+    subst (λ (x : Answer). IsNoNode Is node ledger limit bytes x) (sym is)
+    (subst (λ (k : Header). IsNoNode Is node ledger limit bytes (answers.Foreign node k (asked_of node ledger k))) (sym same) refused)
 
 -- a header that is not the one asked
-pub not_kept : (b : Bool) (node : ℕ) (ledger : Option Header) (kept h : Header) → b ≡ false → (IsTrue b ↔ (kept ≡ asked_of node ledger kept)) → kept ≡ h → h ≢ asked_of node ledger h
+pub not_kept : (b : Bool) (node : ℕ) (ledger : Option Header) (kept h : Header) → b ≡ false → (IsTrue b ↔ (kept ≡ asked_of node ledger kept))
+    → kept ≡ h → h ≢ asked_of node ledger h
 not_kept b node ledger kept h false_is both same = λ is.
     let yes : IsTrue b = both.1 (subst (λ (k : Header). k ≡ asked_of node ledger k) (sym same) is) in
     false≢true (subst (λ (x : Bool). IsTrue x) false_is yes)

@@ -15,8 +15,11 @@ each_rises (j ∷ all) rise zero = All-head Rises j all rise
 each_rises (j ∷ all) rise (suc n) = each_rises all (All-tail Rises j all rise) n
 
 module _ {N : Type 0} (header : N → Header) (journal : N → List Record) where
-  pub lent_rise : (nodes : List N) (rest : List (List Record)) → ByPlace (λ n x. IsJournal (header x) (journal x)) nodes → All Rises rest → All Rises (map (λ x. reverse (journal x)) nodes ++ rest)
+  pub lent_rise : (nodes : List N) (rest : List (List Record)) → ByPlace (λ n x. IsJournal (header x) (journal x)) nodes → All Rises rest
+      → All Rises (map (λ x. reverse (journal x)) nodes ++ rest)
   lent_rise [] rest are rise = rise
   lent_rise (x ∷ nodes) rest are rise =
-      let here : IsJournal (header x) (reverse (reverse (journal x))) = subst (λ (J : List Record). IsJournal (header x) J) (sym (reverse-reverse (journal x))) (are zero x refl) in
-      All-cons Rises (reverse (journal x)) (map (λ y. reverse (journal y)) nodes ++ rest) (journal_rises (header x) (reverse (journal x)) here) (lent_rise nodes rest (λ n y is. are (suc n) y is) rise)
+      let here : IsJournal (header x) (reverse (reverse (journal x))) =
+      subst (λ (J : List Record). IsJournal (header x) J) (sym (reverse-reverse (journal x))) (are zero x refl) in
+      All-cons Rises (reverse (journal x)) (map (λ y. reverse (journal y)) nodes ++ rest) (journal_rises (header x) (reverse (journal x)) here)
+      (lent_rise nodes rest (λ n y is. are (suc n) y is) rise)

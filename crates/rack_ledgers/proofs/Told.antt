@@ -30,7 +30,8 @@ module _ {D : Type 0} (device : Ghosts D) where
       subst (λ (x : D). IsSameDisk device was x) one (record { read = record { leaves = λ c image. image; room = refl }; same = refl })
 
   -- so is the disk of a node that was opened, put back
-  pub same_opened : {N : Type 0} (disk_of : N → D) (opens : N → List ℕ → Type 0) (old new : Option D) (x : N) → OfTold old (λ was. IsNodeOpened device disk_of opens was x)
+  pub same_opened : {N : Type 0} (disk_of : N → D) (opens : N → List ℕ → Type 0) (old new : Option D) (x : N)
+      → OfTold old (λ was. IsNodeOpened device disk_of opens was x)
       → OfTold new (λ d. d ≡ disk_of x) → IsUnchanged device old new
   same_opened disk_of opens old new x opened put was is d is_now =
       subst (λ (y : D). IsSameDisk device was y) (sym (put d is_now)) (record { read = (opened was is).read; same = (opened was is).same })
@@ -42,12 +43,14 @@ module _ {D : Type 0} (device : Ghosts D) where
   pub back_same : (before now : ℕ) (old new : Option D) → new ≡ old → IsDiskBack device before now old new
   back_same before now old new same = same_back before now old new (same_same old new same)
 
-  pub back_opened : (before now : ℕ) {N : Type 0} (disk_of : N → D) (opens : N → List ℕ → Type 0) (old new : Option D) (x : N) → OfTold old (λ was. IsNodeOpened device disk_of opens was x)
+  pub back_opened : (before now : ℕ) {N : Type 0} (disk_of : N → D) (opens : N → List ℕ → Type 0) (old new : Option D) (x : N)
+      → OfTold old (λ was. IsNodeOpened device disk_of opens was x)
       → OfTold new (λ d. d ≡ disk_of x) → IsDiskBack device before now old new
   back_opened before now disk_of opens old new x opened put = same_back before now old new (same_opened disk_of opens old new x opened put)
 
   -- a disk that was taken and read, with its own counts, and put back
-  pub back_put : (before now taken_count given_count : ℕ) (old new : Option D) (taken given : D) → IfSome old (λ was. taken ≡ was) → before ≤ taken_count → given_count ≤ now
+  pub back_put : (before now taken_count given_count : ℕ) (old new : Option D) (taken given : D) → IfSome old (λ was. taken ≡ was)
+      → before ≤ taken_count → given_count ≤ now
       → IsReturned device taken_count given_count taken given → IfSome new (λ d. d ≡ given) → IsDiskBack device before now old new
   back_put before now taken_count given_count old new taken given took le ge read put was is d is_now =
       let a = of_told (λ was. taken ≡ was) old took was is in
@@ -56,5 +59,7 @@ module _ {D : Type 0} (device : Ghosts D) where
       subst (λ (x : D). IsReturned device before now x d) a (subst (λ (x : D). IsReturned device before now taken x) (sym b) whole)
 
   -- a disk that is back within a part of the time is back within the whole
-  pub back_later : {before mid now later : ℕ} (old new : Option D) → before ≤ mid → now ≤ later → IsDiskBack device mid now old new → IsDiskBack device before later old new
-  back_later old new le ge back was is d is_now = record { read = (back was is d is_now).read; same = λ none. (back was is d is_now).same (rose_not le ge none) }
+  pub back_later : {before mid now later : ℕ} (old new : Option D) → before ≤ mid → now ≤ later → IsDiskBack device mid now old new
+      → IsDiskBack device before later old new
+  back_later old new le ge back was is d is_now =
+      record { read = (back was is d is_now).read; same = λ none. (back was is d is_now).same (rose_not le ge none) }

@@ -59,7 +59,8 @@ module _ (h : Header) (rest bytes : List ℕ) (some : 1 ≤ length rest) (none :
       tail_is 1 1 (filling (body_of has.first) ++ has.rest) (filling (body_of r) ++ rest) (sym has.parts ∙ whole) in
       let both = row_once (body_of has.first) (body_of r) has.rest rest (first_small has.first has.is.0) (first_small r may.0) same in
       let one : has.first ≡ r = one_first has.first r has.is.0 may.0 both.0 in
-      let here : IsInGrammar has.header r = subst (λ (q : Record). IsInGrammar has.header q) one (All-head (IsInGrammar has.header) has.first [] has.is.1) in
+      let here : IsInGrammar has.header r = subst (λ (q : Record). IsInGrammar has.header q) one
+      (All-head (IsInGrammar has.header) has.first [] has.is.1) in
       let header : has.header ≡ h = own_header has.header h r may.0 here (All-head (IsInGrammar h) r [] may.1) in
       none (subst (λ (k : Header). HasRow (IsInGrammar k) rest) header (subst (λ (l : List ℕ). HasRow (IsInGrammar has.header) l) both.1 has.second))
 
@@ -104,10 +105,12 @@ open_len [] is = absurd is
 open_len (x ∷ rest) is = omega arith
 
 -- a journal that opens has as many whole records as it has
-pub opened_whole : (h : Header) (records : List Record) (bytes : List ℕ) → MayHold h records → OpensTo records bytes → AreWholeRecords (length records) bytes
+pub opened_whole : (h : Header) (records : List Record) (bytes : List ℕ) → MayHold h records → OpensTo records bytes
+    → AreWholeRecords (length records) bytes
 opened_whole h records bytes may opens =
     so_many_whole h opens.rest bytes (shut_len opens.rest opens.shut) (shut_has_no_row (IsInGrammar h) opens.rest opens.shut) records may opens.parts
 
 -- one that is cut off has those before the cut
-pub cut_whole : (h : Header) (records : List Record) (at : ℕ) (bytes : List ℕ) → MayHold h records → CutsOff (IsInGrammar h) records at bytes → AreWholeRecords (length records) bytes
+pub cut_whole : (h : Header) (records : List Record) (at : ℕ) (bytes : List ℕ) → MayHold h records → CutsOff (IsInGrammar h) records at bytes
+    → AreWholeRecords (length records) bytes
 cut_whole h records at bytes may cut = so_many_whole h cut.rest bytes (open_len cut.rest cut.opened) cut.none records may cut.parts

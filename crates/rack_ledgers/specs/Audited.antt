@@ -23,17 +23,19 @@ pub record HasAuditVerdict (K : Shape) (all : List (List Record)) (mint : List O
   pub is : IsVerdict K mint handed rows verdict
 
 -- of the history of the ledger that the disks tell, an audit with this mint and the transactions that were handed in has this verdict
-pub record IsAudited {D : Type 0} (device : Ghosts D) (held : ℕ → Option D) (mint : List Output) (handed : List FullTx) (verdict : Verdict) : Type 0 where
-  pub shape : Shape
-  pub rows : List Row
-  pub history : IsToldHistory device held shape (genesis_id mint) rows
-  pub is : IsVerdict shape mint handed rows verdict
+pub record IsAudited {D : Type 0} (device : Ghosts D) (held : ℕ → Option D) (mint : List Output) (handed : List FullTx) (verdict : Verdict) : Type 0
+  where
+    pub shape : Shape
+    pub rows : List Row
+    pub history : IsToldHistory device held shape (genesis_id mint) rows
+    pub is : IsVerdict shape mint handed rows verdict
 
 -- each disk that is told of the ledger with this history, the oldest row first, has room for its journal there and for what is kept for the batches that
 -- are open in it
 abbrev pub HistoryHasRoom : {D : Type 0} → Ghosts D → (ℕ → Option D) → Shape → List Row → Type 0
 HistoryHasRoom device held K rows =
-    (n : ℕ) → n < K.coordinators + K.shards → OfTold (held n) (λ was. used_of (journal n (reverse rows)) + kept_room K (journal n (reverse rows)) ≤ device.limit was)
+    (n : ℕ) → n < K.coordinators + K.shards → OfTold (held n)
+    (λ was. used_of (journal n (reverse rows)) + kept_room K (journal n (reverse rows)) ≤ device.limit was)
 
 -- each disk that told its content still holds its journal of this history: whatever a crash may leave of it opens to just that journal
 abbrev pub HistoryIsHeld : {D : Type 0} → Ghosts D → (ℕ → Option D) → (ℕ → Option D) → Shape → Digest → List Row → Type 0
@@ -42,11 +44,13 @@ HistoryIsHeld device before now K genesis rows =
 
 -- of the ledger that the disks tell, if its first records are those of the mint, no hashes clash and each committed transaction has an input, all
 -- money is accounted for, with these totals
-pub record IsAccountedFor {D : Type 0} (device : Ghosts D) (held : ℕ → Option D) (mint : List Output) (handed : List FullTx) (totals : Totals) : Type 0 where
+pub record IsAccountedFor {D : Type 0} (device : Ghosts D) (held : ℕ → Option D) (mint : List Output) (handed : List FullTx) (totals : Totals) : Type
+    0 where
   pub shape : Shape
   pub rows : List Row
   pub history : IsToldHistory device held shape (genesis_id mint) rows
-  pub accounted : BeginAs shape (minted mint) (journals_of rows) → Clean mint handed → EachSpends (reverse rows) → IsAccounted shape mint handed (journals_of rows) totals
+  pub accounted : BeginAs shape (minted mint) (journals_of rows) → Clean mint handed → EachSpends (reverse rows)
+      → IsAccounted shape mint handed (journals_of rows) totals
 
 -- so it is where the verdict is that all is sound
 abbrev pub Accounts : {D : Type 0} → Ghosts D → (ℕ → Option D) → List Output → List FullTx → Verdict → Type 0

@@ -42,7 +42,8 @@ pub record HasUncaused (K : Shape) (all : List (List Record)) (place : ℕ) : Ty
 pub record IsToldHistory {D : Type 0} (device : Ghosts D) (held : ℕ → Option D) (K : Shape) (genesis : Digest) (rows : List Row) : Type 0 where
   pub limits : IsWithinLimits K
   pub journals : (n : ℕ) → n < K.coordinators + K.shards → IsJournal (header_of K genesis n) (journal n (reverse rows))
-  pub opened : (n : ℕ) → n < K.coordinators + K.shards → OfTold (held n) (λ was. Tells (device.content was) (IsNodeJournal (header_of K genesis n) (journal n (reverse rows))))
+  pub opened : (n : ℕ) → n < K.coordinators + K.shards
+      → OfTold (held n) (λ was. Tells (device.content was) (IsNodeJournal (header_of K genesis n) (journal n (reverse rows))))
   pub others : (n : ℕ) → K.coordinators + K.shards ≤ n → journal n (reverse rows) ≡ []
   pub ordered : IsOrdered (reverse rows)
 

@@ -23,28 +23,31 @@ abbrev pub ByPlace : {N : Type 0} → (ℕ → N → Type 0) → List N → Type
 ByPlace P nodes = (n : ℕ) (x : _) → slice_get nodes n ≡ Some x → P n x
 
 -- a node of the kind, of the ledger with this header, has this place, and stands for what was told of its disk
-pub record IsNodeAt {D : Type 0} (device : Ghosts D) (held : ℕ → Option D) (Is : Header → Type 0) (h : Header) (place : ℕ) (n : NodeOf D) : Type 0 where
-  pub header : n.header ≡ header_of h.shape h.genesis place
-  pub journal : IsJournal n.header n.journal
-  pub flight : n.flight ≡ None
-  pub broken : n.broken ≡ None
-  pub since : n.opened ≡ n.faults
-  pub faults : n.faults ≡ device.count n.disk
-  pub capacity : n.capacity ≡ device.limit n.disk
-  pub room : used_of n.journal + kept_room n.header.shape n.journal ≤ n.capacity
-  pub opened : OfTold (held place) (λ was. IsNodeOpened device (λ x. x.disk) (StandsNode device Is) was n)
+pub record IsNodeAt {D : Type 0} (device : Ghosts D) (held : ℕ → Option D) (Is : Header → Type 0) (h : Header) (place : ℕ) (n : NodeOf D) : Type 0
+  where
+    pub header : n.header ≡ header_of h.shape h.genesis place
+    pub journal : IsJournal n.header n.journal
+    pub flight : n.flight ≡ None
+    pub broken : n.broken ≡ None
+    pub since : n.opened ≡ n.faults
+    pub faults : n.faults ≡ device.count n.disk
+    pub capacity : n.capacity ≡ device.limit n.disk
+    pub room : used_of n.journal + kept_room n.header.shape n.journal ≤ n.capacity
+    pub opened : OfTold (held place) (λ was. IsNodeOpened device (λ x. x.disk) (StandsNode device Is) was n)
 
 -- these are all coordinators and all shards of the ledger with this header, which is that of node 0
-pub record AreOpened {D : Type 0} (device : Ghosts D) (held : ℕ → Option D) (h : Header) (logs : List (NodeOf D)) (shards : List (NodeOf D)) : Type 0 where
-  pub first : h.node ≡ 0
-  pub limits : IsWithinLimits h.shape
-  pub coordinators : length logs ≡ h.shape.coordinators
-  pub shards_are : length shards ≡ h.shape.shards
-  pub logs_at : ByPlace (IsNodeAt device held IsCoord h) logs
-  pub shards_at : ByPlace (λ s x. IsNodeAt device held IsShardHeader h (h.shape.coordinators + s) x) shards
+pub record AreOpened {D : Type 0} (device : Ghosts D) (held : ℕ → Option D) (h : Header) (logs : List (NodeOf D)) (shards : List (NodeOf D)) : Type 0
+  where
+    pub first : h.node ≡ 0
+    pub limits : IsWithinLimits h.shape
+    pub coordinators : length logs ≡ h.shape.coordinators
+    pub shards_are : length shards ≡ h.shape.shards
+    pub logs_at : ByPlace (IsNodeAt device held IsCoord h) logs
+    pub shards_at : ByPlace (λ s x. IsNodeAt device held IsShardHeader h (h.shape.coordinators + s) x) shards
 
 -- why the disk that was told of this node is no such node, and a fault of the disk has its cause
-pub record IsNodeRefused {D : Type 0} (device : Ghosts D) (held : ℕ → Option D) (before now : ℕ → ℕ) (Is : Header → Type 0) (ledger : Option Header) (place : ℕ) (answer : Answer) : Type 0 where
+pub record IsNodeRefused {D : Type 0} (device : Ghosts D) (held : ℕ → Option D) (before now : ℕ → ℕ) (Is : Header → Type 0) (ledger : Option Header)
+    (place : ℕ) (answer : Answer) : Type 0 where
   pub kind : IsNodeRefusal answer
   pub fault : IsOpening place (before place) (now place) answer
   pub cause : OfTold (held place) (λ was. Tells (device.content was) (λ c. IsNoNode Is place ledger (device.limit was) c answer))
@@ -80,18 +83,19 @@ pub record LacksLog {D : Type 0} (device : Ghosts D) (held : ℕ → Option D) (
   pub refused : IsNodeRefused device held before now IsCoord (Some header) (length logs) answer
 
 -- all coordinators and the shards before this one are opened, of a ledger that the mint with this id began, and why this one is not
-pub record LacksShard {D : Type 0} (device : Ghosts D) (held : ℕ → Option D) (before now : ℕ → ℕ) (id : Option Digest) (answer : Answer) : Type 0 where
-  pub header : Header
-  pub logs : List (NodeOf D)
-  pub shards : List (NodeOf D)
-  pub first : header.node ≡ 0
-  pub limits : IsWithinLimits header.shape
-  pub minted : IsMintOf id header
-  pub coordinators : length logs ≡ header.shape.coordinators
-  pub inside : length shards < header.shape.shards
-  pub logs_at : ByPlace (IsNodeAt device held IsCoord header) logs
-  pub shards_at : ByPlace (λ s x. IsNodeAt device held IsShardHeader header (header.shape.coordinators + s) x) shards
-  pub refused : IsNodeRefused device held before now IsShardHeader (Some header) (header.shape.coordinators + length shards) answer
+pub record LacksShard {D : Type 0} (device : Ghosts D) (held : ℕ → Option D) (before now : ℕ → ℕ) (id : Option Digest) (answer : Answer) : Type 0
+  where
+    pub header : Header
+    pub logs : List (NodeOf D)
+    pub shards : List (NodeOf D)
+    pub first : header.node ≡ 0
+    pub limits : IsWithinLimits header.shape
+    pub minted : IsMintOf id header
+    pub coordinators : length logs ≡ header.shape.coordinators
+    pub inside : length shards < header.shape.shards
+    pub logs_at : ByPlace (IsNodeAt device held IsCoord header) logs
+    pub shards_at : ByPlace (λ s x. IsNodeAt device held IsShardHeader header (header.shape.coordinators + s) x) shards
+    pub refused : IsNodeRefused device held before now IsShardHeader (Some header) (header.shape.coordinators + length shards) answer
 
 -- why the first coordinator that can't be opened is not: node 0 by its own header, or another mint began its ledger; each other one by node
 -- 0's header, which this mint began

@@ -11,7 +11,8 @@ use Rattle.rack_ledgers.specs.Racked.{AreDisksBack, disks_in}
 use Rattle.rack_ledgers.specs.Ledgers.{ByPlace, IsNodeAt, AreOpened}
 
 -- the disks of all these coordinators and shards, so few that each has a number, may be put back in their places, and all others may be taken
-pub record MayClose {D : Type 0} (device : Ghosts D) (can_put : ℕ → ℕ → Type 0) (can_take : ℕ → Type 0) (log_nodes : List (NodeOf D)) (shard_nodes : List (NodeOf D)) : Type 0 where
+pub record MayClose {D : Type 0} (device : Ghosts D) (can_put : ℕ → ℕ → Type 0) (can_take : ℕ → Type 0) (log_nodes : List (NodeOf D))
+    (shard_nodes : List (NodeOf D)) : Type 0 where
   pub few : length log_nodes + length shard_nodes < 2 ^ 32
   pub logs : EachFrom (MayReturn (λ x. device.count x.disk) can_put) 0 log_nodes
   pub shards : EachFrom (MayReturn (λ x. device.count x.disk) can_put) (length log_nodes) shard_nodes
@@ -19,7 +20,8 @@ pub record MayClose {D : Type 0} (device : Ghosts D) (can_put : ℕ → ℕ → 
 
 -- all nodes of the ledger with this header were opened from a rack: each stands for what was told of its disk, which had not failed less often by then
 -- than before; no other disk was touched, and the ledger may be closed again
-pub record IsLedgerOpenedFrom {R D : Type 0} (device : Ghosts D) (rack : RackGhosts R D) (old new : R) (h : Header) (logs : List (NodeOf D)) (shards : List (NodeOf D)) : Type 0 where
+pub record IsLedgerOpenedFrom {R D : Type 0} (device : Ghosts D) (rack : RackGhosts R D) (old new : R) (h : Header) (logs : List (NodeOf D))
+    (shards : List (NodeOf D)) : Type 0 where
   pub nodes : AreOpened device (rack.held old) h logs shards
   pub logs_since : ByPlace (λ n x. rack.count old n ≤ device.count x.disk) logs
   pub shards_since : ByPlace (λ s x. rack.count old (h.shape.coordinators + s) ≤ device.count x.disk) shards
@@ -28,7 +30,8 @@ pub record IsLedgerOpenedFrom {R D : Type 0} (device : Ghosts D) (rack : RackGho
 
 -- all coordinators of the ledger with this header, which has so few nodes that each has a number, were opened from a rack: each stands for what was told of
 -- its disk, which had not failed less often by then than before, and may be put back; the disks behind theirs were not touched and may be taken
-pub record AreLogsOpenedFrom {R D : Type 0} (device : Ghosts D) (rack : RackGhosts R D) (old new : R) (h : Header) (log_nodes : List (NodeOf D)) : Type 0 where
+pub record AreLogsOpenedFrom {R D : Type 0} (device : Ghosts D) (rack : RackGhosts R D) (old new : R) (h : Header) (log_nodes : List (NodeOf D)) :
+    Type 0 where
   pub first : h.node ≡ 0
   pub limits : IsWithinLimits h.shape
   pub few : h.shape.coordinators + h.shape.shards < 2 ^ 32

@@ -60,7 +60,8 @@ SameRoom device old new = OfTold old (λ was. OfTold new (λ is. device.limit is
 
 -- where the disk that was told tells its content, whatever a crash may leave of the one that is told opens to just this journal
 abbrev pub StillHolds : {D : Type 0} → Ghosts D → Option D → Option D → Header → List Record → Type 0
-StillHolds device old new h J = OfTold old (λ was. IsSome (device.content was) → OfTold new (λ is. (c : List ℕ) → device.images is c → IsNodeJournal h J c))
+StillHolds device old new h J = OfTold old (λ was. IsSome (device.content was)
+    → OfTold new (λ is. (c : List ℕ) → device.images is c → IsNodeJournal h J c))
 
 -- the node stands for what was told of its disk, which was only read and reads as it did
 pub record IsNodeOpened {D N : Type 0} (device : Ghosts D) (disk_of : N → D) (opens : N → List ℕ → Type 0) (was : D) (node : N) : Type 0 where

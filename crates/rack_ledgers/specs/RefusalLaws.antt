@@ -26,7 +26,8 @@ pub record TellLedger {D : Type 0} (device : Ghosts D) (held : ℕ → Option D)
 
 -- whatever is told of a node's disk opens to just this journal of the node, in the ledger with this shape and genesis
 abbrev pub EachOpens : {D : Type 0} → Ghosts D → (ℕ → Option D) → Shape → Digest → (ℕ → List Record) → Type 0
-EachOpens device held K genesis J = (n : ℕ) → n < node_count K → OfTold (held n) (λ was. Tells (device.content was) (IsNodeJournal (header_of K genesis n) (J n)))
+EachOpens device held K genesis J = (n : ℕ) → n < node_count K
+    → OfTold (held n) (λ was. Tells (device.content was) (IsNodeJournal (header_of K genesis n) (J n)))
 
 -- each disk of the ledger that is told has room for its node's journal and for what is kept for the batches that are open there
 abbrev pub AllHaveRoom : {D : Type 0} → Ghosts D → (ℕ → Option D) → Shape → (ℕ → List Record) → Type 0

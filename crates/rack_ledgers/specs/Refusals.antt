@@ -19,7 +19,8 @@ IsRefusalOfBytes (Full used need capacity) = Unit {0}
 
 -- two such refusals of a disk are one, where this tells for what a disk with such room and bytes is refused
 abbrev pub OneRefusal : (ℕ → List ℕ → NodeOpenFault → Type 0) → Type 0
-OneRefusal IsNo = (limit : ℕ) (bytes : List ℕ) (e f : NodeOpenFault) → IsRefusalOfBytes e → IsRefusalOfBytes f → IsNo limit bytes e → IsNo limit bytes f → e ≡ f
+OneRefusal IsNo = (limit : ℕ) (bytes : List ℕ) (e f : NodeOpenFault) → IsRefusalOfBytes e → IsRefusalOfBytes f → IsNo limit bytes e
+    → IsNo limit bytes f → e ≡ f
 
 -- a disk whose bytes are such a journal, with the room that it needs, has none
 abbrev pub NoRefusal : (Header → List Record → List ℕ → Type 0) → (ℕ → List ℕ → NodeOpenFault → Type 0) → Type 0

@@ -32,7 +32,8 @@ abbrev pub IsNoNode : (Header → Type 0) → ℕ → Option Header → ℕ → 
 IsNoNode Is node ledger limit bytes (answers.NotReady n) = (n ≡ node) × HasNoRecord bytes
 IsNoNode Is node ledger limit bytes (answers.Damaged n at) = (n ≡ node) × IsDamagedAt IsAny at bytes
 IsNoNode Is node ledger limit bytes (answers.Full n used need capacity) = (n ≡ node) × (capacity ≡ limit) × IsTooFull IsAny used need capacity bytes
-IsNoNode Is node ledger limit bytes (answers.Foreign n kept asked) = (n ≡ node) × (asked ≡ asked_of node ledger kept) × IsForeign Is limit kept asked bytes
+IsNoNode Is node ledger limit bytes (answers.Foreign n kept asked) = (n ≡ node) × (asked ≡ asked_of node ledger kept)
+    × IsForeign Is limit kept asked bytes
 IsNoNode Is node ledger limit bytes (answers.DiskFault n) = n ≡ node
 IsNoNode Is node ledger limit bytes answers.Memory = Unit {0}
 IsNoNode Is node ledger limit bytes other = ⊥

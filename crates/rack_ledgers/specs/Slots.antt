@@ -89,7 +89,8 @@ abbrev pub IsTakenSlot : {D N : Type 0} → Ghosts D → (ℕ → Option D) → 
 IsTakenSlot device held before n (slots.Waiting m d) = (m ≡ n) × IsTakenDisk device held before n d
 IsTakenSlot device held before n other = ⊥
 
-module _ {D N : Type 0} (device : Ghosts D) (disk_of : N → D) (opens : N → List ℕ → Type 0) (fits : ℕ → Option Header → N → Type 0) (refusals : Answer → Type 0) (refused : ℕ → Option Header → ℕ → List ℕ → Answer → Type 0) (h : Header) where
+module _ {D N : Type 0} (device : Ghosts D) (disk_of : N → D) (opens : N → List ℕ → Type 0) (fits : ℕ → Option Header → N → Type 0)
+    (refusals : Answer → Type 0) (refused : ℕ → Option Header → ℕ → List ℕ → Answer → Type 0) (h : Header) where
   -- this disk was opened as this node of the ledger with this header
   pub record IsOpenOn (n : ℕ) (was : D) (node : N) : Type 0 where
     pub asked : fits n (Some h) node
@@ -118,8 +119,10 @@ module _ {D N : Type 0} (device : Ghosts D) (disk_of : N → D) (opens : N → L
 
   -- what is known of the node of a place that is open
   abbrev pub OpensAt : (ℕ → Option D) → (ℕ → ℕ) → ℕ → N → Type 0
-  OpensAt held before n x = (fits n (Some h) x × (before n ≤ device.count (disk_of x))) × OfTold (held n) (λ was. IsNodeOpened device disk_of opens was x)
+  OpensAt held before n x = (fits n (Some h) x × (before n ≤ device.count (disk_of x)))
+      × OfTold (held n) (λ was. IsNodeOpened device disk_of opens was x)
 
   -- what is known of the answer where the node of a place can't be opened
   abbrev pub FailsAt : (ℕ → Option D) → (ℕ → ℕ) → (ℕ → ℕ) → ℕ → Answer → Type 0
-  FailsAt held before now n e = (refusals e × IsOpening n (before n) (now n) e) × OfTold (held n) (λ was. Tells (device.content was) (λ c. refused n (Some h) (device.limit was) c e))
+  FailsAt held before now n e = (refusals e × IsOpening n (before n) (now n) e)
+      × OfTold (held n) (λ was. Tells (device.content was) (λ c. refused n (Some h) (device.limit was) c e))

@@ -11,7 +11,8 @@ use Rattle.cbdc_model.specs.Lanes.{IsEnd}
 use Rattle.lane_driver.specs.declared.fault.LaneFault.{LaneFault}
 use Rattle.recovery.specs.declared.resumed.ResumedBatch.{ResumedBatch}
 use Rattle.lane_driver.specs.declared.fault.LaneFaultKind.{LaneFaultKind}
-use Rattle.lane_driver.specs.declared.fault.LaneFaultKind.TheVariants.{DiskFault as DiskStopped, Full as NoRoom, ClockEnd as NoStamp, Memory as NoMemory}
+use Rattle.lane_driver.specs.declared.fault.LaneFaultKind.TheVariants.{DiskFault as DiskStopped, Full as NoRoom, ClockEnd as NoStamp}
+use Rattle.lane_driver.specs.declared.fault.LaneFaultKind.TheVariants.{Memory as NoMemory}
 use Rattle.node_journal.specs.Nodes.{NodeOf}
 use Rattle.rack_ledgers.specs.Racked.{Disks, OfTold, SameRoom}
 use Rattle.rack_ledgers.specs.Ledgers.{ByPlace, AreOpened}
@@ -46,9 +47,12 @@ answered K next E X failed holds e h = go e.fault h
     go NoMemory h = tt
 
 -- a work that a lane's fault ended, or for which memory ran out: its answer has its cause, and is the least lane's
-pub came_badly : {T Done : Type 0} (d : Deed Done) (K : Shape) (E X : ℕ → List Record) (failed : ℕ → Type 0) (holds : ℕ → ℕ → Type 0) (told : Result T Answer) (resumed : List ResumedBatch) (came : Result Done LaneFault)
-    → IfErr told (λ a. ((a ≡ answers.Memory) × ((x : Done) × (came ≡ Ok x))) ⊎ ((e : LaneFault) × (came ≡ Err e) × (a ≡ answer_to e))) → IfOk came (AllWell d K E X resumed) → IfErr came (AllBadly d K E X failed holds)
-    → IfErr told (λ a. IsLaneAnswer K (d.next K E X) E X failed holds a × IsLeastAnswer (CameThrough d K E X) (EndsWork d K E X failed holds) a × AllRestBehind K E X failed (a ≡ answers.Memory))
+pub came_badly : {T Done : Type 0} (d : Deed Done) (K : Shape) (E X : ℕ → List Record) (failed : ℕ → Type 0) (holds : ℕ → ℕ → Type 0)
+    (told : Result T Answer) (resumed : List ResumedBatch) (came : Result Done LaneFault)
+    → IfErr told (λ a. ((a ≡ answers.Memory) × ((x : Done) × (came ≡ Ok x))) ⊎ ((e : LaneFault) × (came ≡ Err e) × (a ≡ answer_to e)))
+    → IfOk came (AllWell d K E X resumed) → IfErr came (AllBadly d K E X failed holds)
+    → IfErr told (λ a. IsLaneAnswer K (d.next K E X) E X failed holds a × IsLeastAnswer (CameThrough d K E X) (EndsWork d K E X failed holds) a
+    × AllRestBehind K E X failed (a ≡ answers.Memory))
 came_badly d K E X failed holds (Ok t) resumed came is well badly = tt
 came_badly d K E X failed holds (Err a) resumed came (inl (memory, (x, is))) well badly =
     let all : AllWell d K E X resumed x = subst (λ o. IfOk o (AllWell d K E X resumed)) is well in (
@@ -68,7 +72,8 @@ came_badly d K E X failed holds (Err a) resumed came (inr (e, err, is)) well bad
 module _ (K : Shape) (failed fails : ℕ → Type 0) (holds held : ℕ → ℕ → Type 0)
     (failed_on : (n : ℕ) → n < node_count K → failed n → fails n) (held_on : (n c : ℕ) → n < node_count K → holds n c → held n c) where
   -- the cause of a lane's fault
-  pub cause_by : (lane : ℕ) (next : List Compact → Type 0) (E X : ℕ → List Record) → IsLaneOf K lane → (node : ℕ) (kind : LaneFaultKind) → IsCauseOf K lane next E X failed holds node kind → IsCauseOf K lane next E X fails held node kind
+  pub cause_by : (lane : ℕ) (next : List Compact → Type 0) (E X : ℕ → List Record) → IsLaneOf K lane → (node : ℕ) (kind : LaneFaultKind)
+      → IsCauseOf K lane next E X failed holds node kind → IsCauseOf K lane next E X fails held node kind
   cause_by lane next E X lt node DiskStopped h = record { inside = h.inside; asked = h.asked; did = failed_on node h.inside h.did }
   cause_by lane next E X lt node (NoRoom used need capacity) h = record {
     front = h.front;
@@ -106,7 +111,8 @@ module _ (K : Shape) (failed fails : ℕ → Type 0) (holds held : ℕ → ℕ �
     where
       go : (lane : ℕ) → RestsBehind K lane E X failed memory → RestsBehind K lane E X fails memory
       go lane (inl (inl before)) = inl (inl before)
-      go lane (inl (inr (node, failure))) = inl (inr (node, record { inside = failure.inside; asked = failure.asked; did = failed_on node failure.inside failure.did }))
+      go lane (inl (inr (node, failure))) = inl (inr
+          (node, record { inside = failure.inside; asked = failure.asked; did = failed_on node failure.inside failure.did }))
       go lane (inr waits) = inr waits
 
   ends_by : {Done : Type 0} (d : Deed Done) (E X : ℕ → List Record) (e : LaneFault) → EndsWork d K E X failed holds e → EndsWork d K E X fails held e
@@ -126,14 +132,17 @@ module _ (K : Shape) (failed fails : ℕ → Type 0) (holds held : ℕ → ℕ �
     },
   )
 
-  least_by : {Done : Type 0} (d : Deed Done) (E X : ℕ → List Record) (a : Answer) → IsLeastAnswer (CameThrough d K E X) (EndsWork d K E X failed holds) a
+  least_by : {Done : Type 0} (d : Deed Done) (E X : ℕ → List Record) (a : Answer)
+      → IsLeastAnswer (CameThrough d K E X) (EndsWork d K E X failed holds) a
       → IsLeastAnswer (CameThrough d K E X) (EndsWork d K E X fails held) a
   least_by d E X a (inl all) = inl all
   least_by d E X a (inr (e, is, ends)) = inr (e, is, ends_by d E X e ends)
 
-  answer_by : (next : ℕ → List Compact → Type 0) (E X : ℕ → List Record) (a : Answer) → IsLaneAnswer K next E X failed holds a → IsLaneAnswer K next E X fails held a
+  answer_by : (next : ℕ → List Compact → Type 0) (E X : ℕ → List Record) (a : Answer) → IsLaneAnswer K next E X failed holds a
+      → IsLaneAnswer K next E X fails held a
   answer_by next E X (answers.DiskFault node) (lane, lt, h) = (lane, lt, cause_by lane (next lane) E X lt node DiskStopped h)
-  answer_by next E X (answers.Full node used need capacity) (lane, lt, h) = (lane, lt, cause_by lane (next lane) E X lt node (NoRoom used need capacity) h)
+  answer_by next E X (answers.Full node used need capacity) (lane, lt, h) =
+      (lane, lt, cause_by lane (next lane) E X lt node (NoRoom used need capacity) h)
   answer_by next E X (answers.ClockEnd node stamp) (lane, lt, h) = (lane, lt, cause_by lane (next lane) E X lt node (NoStamp stamp) h)
   answer_by next E X answers.Memory h = tt
   answer_by next E X answers.Ok h = absurd h
@@ -156,12 +165,16 @@ none_before o x none (inr now) = now
 -- ---- on a rack
 
 module _ {D : Type 0} (device : Ghosts D) (held back : ℕ → Option D) (h g : Header)
-    (logs now : List (NodeOf D)) (shards after : List (NodeOf D)) (are : AreOpened device held h logs shards) (caused : AreCaused h.shape (lent_journals logs shards))
+    (logs now : List (NodeOf D)) (shards after : List (NodeOf D)) (are : AreOpened device held h logs shards)
+    (caused : AreCaused h.shape (lent_journals logs shards))
     (is : IsLedger g now after) (shape : g.shape ≡ h.shape)
-    (logs_back : ByPlace (λ n l. OfTold (back n) (λ d. d ≡ l.disk)) now) (shards_back : ByPlace (λ s x. OfTold (back (length now + s)) (λ d. d ≡ x.disk)) after)
+    (logs_back : ByPlace (λ n l. OfTold (back n) (λ d. d ≡ l.disk)) now)
+    (shards_back : ByPlace (λ s x. OfTold (back (length now + s)) (λ d. d ≡ x.disk)) after)
     (stored : AreStored device logs shards → AreStored device now after) (seen : AreSeen device now after) (before behind : ℕ → ℕ)
-    (logs_since : ByPlace (λ n l. before n ≤ device.count l.disk) logs) (shards_since : ByPlace (λ s x. before (h.shape.coordinators + s) ≤ device.count x.disk) shards)
-    (logs_counted : ByPlace (λ n l. device.count l.disk ≤ behind n) now) (shards_counted : ByPlace (λ s x. device.count x.disk ≤ behind (length now + s)) after) where
+    (logs_since : ByPlace (λ n l. before n ≤ device.count l.disk) logs)
+    (shards_since : ByPlace (λ s x. before (h.shape.coordinators + s) ≤ device.count x.disk) shards)
+    (logs_counted : ByPlace (λ n l. device.count l.disk ≤ behind n) now)
+    (shards_counted : ByPlace (λ s x. device.count x.disk ≤ behind (length now + s)) after) where
   abbrev History : List Row
   History = reverse caused.rows
 
@@ -183,11 +196,14 @@ module _ {D : Type 0} (device : Ghosts D) (held back : ℕ → Option D) (h g : 
 
   -- what the disks that are back have room for
   rooms_back : AllHaveRoom device back h.shape (node_journals h.shape now after)
-  rooms_back = subst (λ k. AllHaveRoom device back k (node_journals k now after)) shape (rooms_each device back g now after is logs_back shards_back seen)
+  rooms_back = subst (λ k. AllHaveRoom device back k (node_journals k now after)) shape
+      (rooms_each device back g now after is logs_back shards_back seen)
 
   -- what was taken, and how it was left
-  pub took : AllHaveRoom device held h.shape (node_journals h.shape logs shards) → ((n : ℕ) → n < node_count h.shape → SameRoom device (held n) (back n)) → ((n : ℕ) → node_count h.shape ≤ n → back n ≡ held n)
-      → ((n : ℕ) → IsEnd (node_journals h.shape logs shards n) (node_journals h.shape now after n)) → HaveCheckedJournals h.shape now after → AreQuiet now after → TookLedger device held back
+  pub took : AllHaveRoom device held h.shape (node_journals h.shape logs shards)
+      → ((n : ℕ) → n < node_count h.shape → SameRoom device (held n) (back n)) → ((n : ℕ) → node_count h.shape ≤ n → back n ≡ held n)
+      → ((n : ℕ) → IsEnd (node_journals h.shape logs shards n) (node_journals h.shape now after n)) → HaveCheckedJournals h.shape now after
+      → AreQuiet now after → TookLedger device held back
   took room same_room spared grows checked quiet = record {
     ledger = record {
       shape = h.shape;
@@ -212,15 +228,22 @@ module _ {D : Type 0} (device : Ghosts D) (held back : ℕ → Option D) (h g : 
   abbrev Flown : Type 0
   Flown = (n : ℕ) (r : Record) → flights_of h.shape now after n ≡ Some r → HaveFailed (opened_of h.shape logs shards) (faults_of h.shape now after) n
 
-  pub lane_fault : {Done : Type 0} (d : Deed Done) → ((lane : ℕ) (txs : List Compact) → d.next h.shape (node_journals h.shape logs shards) (node_journals h.shape now after) lane txs → FitsBatch h.shape txs)
-      → LeavesAll d h.shape (node_journals h.shape logs shards) (node_journals h.shape now after) (flights_of h.shape logs shards) (flights_of h.shape now after)
+  pub lane_fault : {Done : Type 0} (d : Deed Done)
+      → ((lane : ℕ) (txs : List Compact) → d.next h.shape (node_journals h.shape logs shards) (node_journals h.shape now after) lane txs
+      → FitsBatch h.shape txs)
+      → LeavesAll d h.shape (node_journals h.shape logs shards) (node_journals h.shape now after) (flights_of h.shape logs shards)
+      (flights_of h.shape now after)
       (HaveFailed (opened_of h.shape logs shards) (faults_of h.shape now after)) → Flown → (a : Answer)
-      → IsLaneAnswer h.shape (d.next h.shape (node_journals h.shape logs shards) (node_journals h.shape now after)) (node_journals h.shape logs shards) (node_journals h.shape now after)
+      → IsLaneAnswer h.shape (d.next h.shape (node_journals h.shape logs shards) (node_journals h.shape now after))
+      (node_journals h.shape logs shards) (node_journals h.shape now after)
       (HaveFailed (opened_of h.shape logs shards) (faults_of h.shape now after)) (MayHoldBytes (capacity_of h.shape logs shards)) a
-      → IsLeastAnswer (CameThrough d h.shape (node_journals h.shape logs shards) (node_journals h.shape now after)) (EndsWork d h.shape (node_journals h.shape logs shards) (node_journals h.shape now after)
+      → IsLeastAnswer (CameThrough d h.shape (node_journals h.shape logs shards) (node_journals h.shape now after))
+      (EndsWork d h.shape (node_journals h.shape logs shards) (node_journals h.shape now after)
       (HaveFailed (opened_of h.shape logs shards) (faults_of h.shape now after)) (MayHoldBytes (capacity_of h.shape logs shards))) a
-      → AllRestBehind h.shape (node_journals h.shape logs shards) (node_journals h.shape now after) (HaveFailed (opened_of h.shape logs shards) (faults_of h.shape now after)) (a ≡ answers.Memory)
-      → AllHaveRoom device held h.shape (node_journals h.shape logs shards) → ((n : ℕ) → n < node_count h.shape → SameRoom device (held n) (back n)) → HaveCheckedJournals h.shape now after
+      → AllRestBehind h.shape (node_journals h.shape logs shards) (node_journals h.shape now after)
+      (HaveFailed (opened_of h.shape logs shards) (faults_of h.shape now after)) (a ≡ answers.Memory)
+      → AllHaveRoom device held h.shape (node_journals h.shape logs shards) → ((n : ℕ) → n < node_count h.shape → SameRoom device (held n) (back n))
+      → HaveCheckedJournals h.shape now after
       → OfShown device held (IsCutShort device back d.handed (node_journals h.shape now after)) → ((n : ℕ) → node_count h.shape ≤ n → back n ≡ held n)
       → IsLaneFault device (record { held = held; faults = before }) (record { held = back; faults = behind }) (work_turns d) a
   lane_fault d fits leaves flown a cause least rests room same_room checked kept spared =
@@ -243,17 +266,21 @@ module _ {D : Type 0} (device : Ghosts D) (held back : ℕ → Option D) (h g : 
         prepared = subst (λ L. BeginsWork d K L X) entry (leaves.begun are.limits);
         flights = flights_of h.shape now after;
         in_flight = λ n r inside there. risen n inside (flown n r there);
-        prepares = subst (λ L. (n t : ℕ) (b : Batch) (txs : List Compact) → n < node_count K → flights_of h.shape now after n ≡ Some (Prepare t b txs) → IsLaneOf K b.lane × d.next K L X b.lane txs) entry
+        prepares = subst (λ L. (n t : ℕ) (b : Batch) (txs : List Compact) → n < node_count K
+            → flights_of h.shape now after n ≡ Some (Prepare t b txs) → IsLaneOf K b.lane × d.next K L X b.lane txs) entry
             (λ n t b txs inside there. none_before (flights_of h.shape logs shards n) (Prepare t b txs)
             (none_fly h.shape logs shards (are_quiet device held h logs shards are) n) (leaves.launches n t b txs there));
         disks = λ tells.
             subst (λ k. KeepsFlights device back k (node_journals k now after) (flights_of k now after)) shape
             (keeps_flights device back g now after is logs_back shards_back (stored (told_stored device held h logs shards are tells)));
-        cause = subst (λ L. IsLaneAnswer K (d.next K L X) L X Rises Holds a) entry (answer_by K failed Rises holds Holds risen may (d.next K E X) E X a cause);
+        cause = subst (λ L. IsLaneAnswer K (d.next K L X) L X Rises Holds a) entry
+            (answer_by K failed Rises holds Holds risen may (d.next K E X) E X a cause);
         may_come = subst (λ L. MayComeNext K h.genesis (d.next K L X) L X) entry
             (wants_there device h g logs now shards after (is_ledger device held h logs shards are) is shape checked (d.next K E X) fits);
-        least = subst (λ L. IsLeastAnswer (CameThrough d K L X) (EndsWork d K L X Rises Holds) a) entry (least_by K failed Rises holds Holds risen may d E X a least);
-        rests = subst (λ L. AllRestBehind K L X Rises (a ≡ answers.Memory)) entry (rest_by K failed Rises holds Holds risen may E X (a ≡ answers.Memory) rests);
+        least = subst (λ L. IsLeastAnswer (CameThrough d K L X) (EndsWork d K L X Rises Holds) a) entry
+            (least_by K failed Rises holds Holds risen may d E X a least);
+        rests = subst (λ L. AllRestBehind K L X Rises (a ≡ answers.Memory)) entry
+            (rest_by K failed Rises holds Holds risen may E X (a ≡ answers.Memory) rests);
         room = subst (λ L. AllHaveRoom device held K L) entry room;
         same_room = same_room;
         rooms = rooms_back;
@@ -263,9 +290,11 @@ module _ {D : Type 0} (device : Ghosts D) (held back : ℕ → Option D) (h g : 
 
 -- the same fault, said in other words of whose it is, of what has been begun and of what came through
 pub fault_as : {D : Type 0} (device : Ghosts D) (before after : Disks D)
-    (next : Shape → (ℕ → List Record) → (ℕ → List Record) → ℕ → List Compact → Type 0) (ends others : Shape → (ℕ → List Record) → (ℕ → List Record) → (ℕ → Type 0) → (ℕ → ℕ → Type 0) → LaneFault → Type 0)
+    (next : Shape → (ℕ → List Record) → (ℕ → List Record) → ℕ → List Compact → Type 0)
+    (ends others : Shape → (ℕ → List Record) → (ℕ → List Record) → (ℕ → Type 0) → (ℕ → ℕ → Type 0) → LaneFault → Type 0)
     (begun starts through comes : Shape → (ℕ → List Record) → (ℕ → List Record) → Type 0) (handed : List (List FullTx))
-    → ((K : Shape) (E X : ℕ → List Record) (failed : ℕ → Type 0) (holds : ℕ → ℕ → Type 0) (e : LaneFault) → ends K E X failed holds e → others K E X failed holds e)
+    → ((K : Shape) (E X : ℕ → List Record) (failed : ℕ → Type 0) (holds : ℕ → ℕ → Type 0) (e : LaneFault) → ends K E X failed holds e
+    → others K E X failed holds e)
     → ((K : Shape) (E X : ℕ → List Record) → begun K E X → starts K E X)
     → ((K : Shape) (E X : ℕ → List Record) → through K E X → comes K E X)
     → (a : Answer) → IsLaneFault device before after (record { handed = handed; next = next; ends = ends; begun = begun; through = through }) a
@@ -293,9 +322,15 @@ fault_as device before after next ends others begun starts through comes handed 
       spared = f.spared;
     }
   where
-    Whose : (Shape → (ℕ → List Record) → (ℕ → List Record) → Type 0) → (Shape → (ℕ → List Record) → (ℕ → List Record) → (ℕ → Type 0) → (ℕ → ℕ → Type 0) → LaneFault → Type 0) → Type 0
-    Whose all which = IsLeastAnswer (all f.ledger.shape (λ n. journal n (reverse f.ledger.rows)) f.exit) (which f.ledger.shape (λ n. journal n (reverse f.ledger.rows)) f.exit (RoseAt before after) (DiskMayHold device before)) a
+    Whose : (Shape → (ℕ → List Record) → (ℕ → List Record) → Type 0)
+        → (Shape → (ℕ → List Record) → (ℕ → List Record) → (ℕ → Type 0) → (ℕ → ℕ → Type 0) → LaneFault → Type 0) → Type 0
+    Whose all which = IsLeastAnswer (all f.ledger.shape (λ n. journal n (reverse f.ledger.rows)) f.exit)
+        (which f.ledger.shape (λ n. journal n (reverse f.ledger.rows)) f.exit (RoseAt before after) (DiskMayHold device before)) a
 
     go : Whose through ends → Whose comes others
     go (inl (memory, all)) = inl (memory, through_as f.ledger.shape (λ n. journal n (reverse f.ledger.rows)) f.exit all)
-    go (inr (e, is, so)) = inr (e, is, ends_as f.ledger.shape (λ n. journal n (reverse f.ledger.rows)) f.exit (RoseAt before after) (DiskMayHold device before) e so)
+    go (inr (e, is, so)) = inr (
+      e,
+      is,
+      ends_as f.ledger.shape (λ n. journal n (reverse f.ledger.rows)) f.exit (RoseAt before after) (DiskMayHold device before) e so,
+    )

@@ -1,5 +1,6 @@
 -- The nodes of a ledger that was opened, and their disks behind a run.
-use Rattle.std.proofs.Common.{◌≡◌, inl, inr, ℕ, zero, suc, ◌+◌, ◌-◌, ◌<◌, ◌≤◌, true, false, nat_lt, if◌then◌else◌, List, [], ◌∷◌, length, get_or, reverse, Option, Some, None, refl, sym, ap, ◌∙◌, subst, arith}
+use Rattle.std.proofs.Common.{◌≡◌, inl, inr, ℕ, zero, suc, ◌+◌, ◌-◌, ◌<◌, ◌≤◌, true, false, nat_lt, if◌then◌else◌, List, [], ◌∷◌, length, get_or}
+use Rattle.std.proofs.Common.{reverse, Option, Some, None, refl, sym, ap, ◌∙◌, subst, arith}
 use Rattle.std.specs.Prelude.{slice_get, All, IfSome}
 use Rattle.std.proofs.lemmas.Option.{slice_get_within, slice_get-get_or}
 use Rattle.std.proofs.lemmas.Bool.{cases_lt}
@@ -26,7 +27,8 @@ use Rattle.file_runs.specs.Ledgers.{IsLedger, node_journals, flights_of, faults_
 
 -- nodes whose disks' counts have not fallen may be put back where those before might
 pub returns : {N : Type 0} (f : N → ℕ) (can : ℕ → ℕ → Type 0) (i : ℕ) (xs ys : List N) → length ys ≡ length xs
-    → ((n : ℕ) (x y : N) → slice_get xs n ≡ Some x → slice_get ys n ≡ Some y → f x ≤ f y) → EachFrom (MayReturn f can) i xs → EachFrom (MayReturn f can) i ys
+    → ((n : ℕ) (x y : N) → slice_get xs n ≡ Some x → slice_get ys n ≡ Some y → f x ≤ f y) → EachFrom (MayReturn f can) i xs
+    → EachFrom (MayReturn f can) i ys
 returns f can i [] [] e le each = tt
 returns f can i [] (y ∷ ys) e le each = absurd (omega (arith, e))
 returns f can i (x ∷ xs) [] e le each = absurd (omega (arith, e))
@@ -42,7 +44,8 @@ by_all P xs all n x there =
     subst P same (all n x inside)
 
 -- nothing is in flight where nothing is at any place
-none_flies : {N : Type 0} (see : N → Sight) (xs : List N) → ((n : ℕ) (x : N) → slice_get xs n ≡ Some x → (see x).flight ≡ None) → (n : ℕ) → (sight_at see xs n).flight ≡ None
+none_flies : {N : Type 0} (see : N → Sight) (xs : List N) → ((n : ℕ) (x : N) → slice_get xs n ≡ Some x → (see x).flight ≡ None) → (n : ℕ)
+    → (sight_at see xs n).flight ≡ None
 none_flies see [] each n = refl
 none_flies see (x ∷ xs) each zero = each 0 x refl
 none_flies see (x ∷ xs) each (suc n) = none_flies see xs (λ k y there. each (suc k) y there) n
@@ -70,7 +73,8 @@ module _ {D X : Type 0} (f : Sight → X) (K : Shape) (logs shards : List (NodeO
 
   of_shard : (s : ℕ) (x : NodeOf D) → slice_get shards s ≡ Some x → by_number (K.coordinators + s) ≡ f (sight x)
   of_shard s x there =
-      ap (λ b. if b then f (sight_at sight logs (K.coordinators + s)) else f (sight_at sight shards ((K.coordinators + s) - K.coordinators))) (shard_high K s)
+      ap (λ b. if b then f (sight_at sight logs (K.coordinators + s)) else f (sight_at sight shards ((K.coordinators + s) - K.coordinators)))
+      (shard_high K s)
       ∙ (ap (λ p. f (sight_at sight shards p)) (shard_place K s)
       ∙ ap f (sight_there sight shards s x there))
 
@@ -108,14 +112,18 @@ module _ {D : Type 0} (K : Shape) (logs shards : List (NodeOf D)) where
   }
 
   -- each number of the ledger has a node, which has what all coordinators and all shards have at their places
-  pub node_there : length logs ≡ K.coordinators → length shards ≡ K.shards → (P : ℕ → NodeOf D → Type 0) → ByPlace P logs → ByPlace (λ s x. P (K.coordinators + s) x) shards
+  pub node_there : length logs ≡ K.coordinators → length shards ≡ K.shards → (P : ℕ → NodeOf D → Type 0) → ByPlace P logs
+      → ByPlace (λ s x. P (K.coordinators + s) x) shards
       → (n : ℕ) → n < node_count K → (x : NodeOf D) × P n x × IsThere n x
   node_there logs_are shards_are P log shard n inside = elim (cases_lt n K.coordinators) [
     | inl low ↦ let l = at_place logs n (omega (arith, low, logs_are)) in (l.0, log n l.0 l.1, log_there n l.0 low l.1)
     | inr high ↦
         let place : K.coordinators + (n - K.coordinators) ≡ n = omega (arith, high) in
-        let x = at_place shards (n - K.coordinators) (omega (arith, high, inside, shards_are)) in
-        (x.0, subst (λ k. P k x.0) place (shard (n - K.coordinators) x.0 x.1), subst (λ k. IsThere k x.0) place (shard_there (n - K.coordinators) x.0 x.1))
+        let x = at_place shards (n - K.coordinators) (omega (arith, high, inside, shards_are)) in (
+          x.0,
+          subst (λ k. P k x.0) place (shard (n - K.coordinators) x.0 x.1),
+          subst (λ k. IsThere k x.0) place (shard_there (n - K.coordinators) x.0 x.1),
+        )
   ]
 
   -- nodes that were opened have nothing in flight anywhere
@@ -160,12 +168,14 @@ module _ {D : Type 0} (device : Ghosts D) where
 
     module _ (later : (n : ℕ) → faults_of h.shape logs shards n ≤ faults_of h.shape now after n) (seen : AreSeen device now after) where
       -- no disk has failed less often, by the node's number
-      not_less : (n : ℕ) (x y : NodeOf D) → x.faults ≡ device.count x.disk → y.faults ≡ device.count y.disk → faults_of h.shape logs shards n ≡ x.faults → faults_of h.shape now after n ≡ y.faults
+      not_less : (n : ℕ) (x y : NodeOf D) → x.faults ≡ device.count x.disk → y.faults ≡ device.count y.disk
+          → faults_of h.shape logs shards n ≡ x.faults → faults_of h.shape now after n ≡ y.faults
           → device.count x.disk ≤ device.count y.disk
       not_less n x y x_is y_is a b = omega (arith, x_is, y_is, a, b, later n)
 
       -- the coordinators' disks may be put back
-      pub logs_return : (can : ℕ → ℕ → Type 0) → EachFrom (MayReturn (λ x. device.count x.disk) can) 0 logs → EachFrom (MayReturn (λ x. device.count x.disk) can) 0 now
+      pub logs_return : (can : ℕ → ℕ → Type 0) → EachFrom (MayReturn (λ x. device.count x.disk) can) 0 logs
+          → EachFrom (MayReturn (λ x. device.count x.disk) can) 0 now
       logs_return can each = returns (λ x. device.count x.disk) can 0 logs now (logs_stay ∙ sym are.coordinators)
           (λ n x y p q.
           let low : n < h.shape.coordinators = omega (arith, slice_get_within logs n x p, are.coordinators) in
@@ -174,7 +184,8 @@ module _ {D : Type 0} (device : Ghosts D) where
           each
 
       -- and the shards'
-      pub shards_return : (can : ℕ → ℕ → Type 0) → EachFrom (MayReturn (λ x. device.count x.disk) can) (length logs) shards → EachFrom (MayReturn (λ x. device.count x.disk) can) (length now) after
+      pub shards_return : (can : ℕ → ℕ → Type 0) → EachFrom (MayReturn (λ x. device.count x.disk) can) (length logs) shards
+          → EachFrom (MayReturn (λ x. device.count x.disk) can) (length now) after
       shards_return can each =
           subst (λ k. EachFrom (MayReturn (λ x. device.count x.disk) can) k after) (are.coordinators ∙ sym logs_stay)
           (returns (λ x. device.count x.disk) can (length logs) shards after (shards_stay ∙ sym are.shards_are)
@@ -191,20 +202,28 @@ module _ {D : Type 0} (device : Ghosts D) where
     has : P x
 
   module _ (held : ℕ → Option D) (h : Header) (logs shards : List (NodeOf D)) (is : IsLedger h logs shards)
-      (logs_back : ByPlace (λ n l. OfTold (held n) (λ d. d ≡ l.disk)) logs) (shards_back : ByPlace (λ s x. OfTold (held (length logs + s)) (λ d. d ≡ x.disk)) shards) where
+      (logs_back : ByPlace (λ n l. OfTold (held n) (λ d. d ≡ l.disk)) logs)
+      (shards_back : ByPlace (λ s x. OfTold (held (length logs + s)) (λ d. d ≡ x.disk)) shards) where
     -- the node of a number, with its disk back there
-    put_back : (P : NodeOf D → Type 0) → All P logs → All P shards → (n : ℕ) → n < node_count h.shape → (x : NodeOf D) × IsPutBack held P n x × IsThere h.shape logs shards n x
+    put_back : (P : NodeOf D → Type 0) → All P logs → All P shards → (n : ℕ) → n < node_count h.shape
+        → (x : NodeOf D) × IsPutBack held P n x × IsThere h.shape logs shards n x
     put_back P log_has shard_has = node_there h.shape logs shards is.coordinators is.shards_are (IsPutBack held P)
         (λ n l there. record { back = logs_back n l there; has = by_all P logs log_has n l there })
-        (λ s x there. record { back = subst (λ k. OfTold (held (k + s)) (λ d. d ≡ x.disk)) is.coordinators (shards_back s x there); has = by_all P shards shard_has s x there })
+        (λ s x there. record {
+          back = subst (λ k. OfTold (held (k + s)) (λ d. d ≡ x.disk)) is.coordinators (shards_back s x there);
+          has = by_all P shards shard_has s x there;
+        })
 
     -- disks that are back keep the journals, with the record that is in flight at their nodes, or without
     pub keeps_flights : AreStored device logs shards
-        → (n : ℕ) → n < node_count h.shape → OfTold (held n) (λ d. (c : List ℕ) → device.images d c → OpensToEither (reverse (node_journals h.shape logs shards n)) (flights_of h.shape logs shards n) c)
+        → (n : ℕ) → n < node_count h.shape → OfTold (held n)
+        (λ d. (c : List ℕ) → device.images d c → OpensToEither (reverse (node_journals h.shape logs shards n)) (flights_of h.shape logs shards n)
+        c)
     keeps_flights stored n inside d told c image =
         let x = put_back (HoldsJournal device) stored.logs_are stored.shards_are n inside in
         subst (λ o. OpensToEither (reverse (node_journals h.shape logs shards n)) o c) (sym x.2.flight)
-        (subst (λ J. OpensToEither (reverse J) x.0.flight c) (sym x.2.journal) (x.1.has.each c (subst (λ y. device.images y c) (x.1.back d told) image)))
+        (subst (λ J. OpensToEither (reverse J) x.0.flight c) (sym x.2.journal)
+        (x.1.has.each c (subst (λ y. device.images y c) (x.1.back d told) image)))
 
     pub keeps_each : AreStored device logs shards → KeepsEach device held h.shape (node_journals h.shape logs shards)
     keeps_each stored n inside = (flights_of h.shape logs shards n, keeps_flights stored n inside)
@@ -212,22 +231,30 @@ module _ {D : Type 0} (device : Ghosts D) where
     -- and hold nothing else, where nothing is in flight
     pub holds_each : AreStored device logs shards → AreQuiet logs shards → HoldsEach device held h.shape (node_journals h.shape logs shards)
     holds_each stored quiet n inside d told c image =
-        subst (λ o. OpensToEither (reverse (node_journals h.shape logs shards n)) o c) (none_fly h.shape logs shards quiet n) (keeps_flights stored n inside d told c image)
+        subst (λ o. OpensToEither (reverse (node_journals h.shape logs shards n)) o c) (none_fly h.shape logs shards quiet n)
+        (keeps_flights stored n inside d told c image)
 
     module _ (seen : AreSeen device logs shards) where
-      seen_back : (n : ℕ) → n < node_count h.shape → (x : NodeOf D) × IsPutBack held (λ x. IsSeen device x × (x.header.shape ≡ h.shape)) n x × IsThere h.shape logs shards n x
+      seen_back : (n : ℕ) → n < node_count h.shape
+          → (x : NodeOf D) × IsPutBack held (λ x. IsSeen device x × (x.header.shape ≡ h.shape)) n x × IsThere h.shape logs shards n x
       seen_back = node_there h.shape logs shards is.coordinators is.shards_are (IsPutBack held (λ x. IsSeen device x × (x.header.shape ≡ h.shape)))
           (λ n l there.
           let low : n < h.shape.coordinators = omega (arith, slice_get_within logs n l there, is.coordinators) in
           record {
             back = logs_back n l there;
-            has = (by_all (IsSeen device) logs seen.logs_are n l there, ap (λ s. s.header.shape) (sym (sight_there sight logs n l there)) ∙ ap (λ k. k.shape) (is.log_headers n low));
+            has = (
+              by_all (IsSeen device) logs seen.logs_are n l there,
+              ap (λ s. s.header.shape) (sym (sight_there sight logs n l there)) ∙ ap (λ k. k.shape) (is.log_headers n low),
+            );
           })
           (λ s x there.
           let low : s < h.shape.shards = omega (arith, slice_get_within shards s x there, is.shards_are) in
           record {
             back = subst (λ k. OfTold (held (k + s)) (λ d. d ≡ x.disk)) is.coordinators (shards_back s x there);
-            has = (by_all (IsSeen device) shards seen.shards_are s x there, ap (λ t. t.header.shape) (sym (sight_there sight shards s x there)) ∙ ap (λ k. k.shape) (is.shard_headers s low));
+            has = (
+              by_all (IsSeen device) shards seen.shards_are s x there,
+              ap (λ t. t.header.shape) (sym (sight_there sight shards s x there)) ∙ ap (λ k. k.shape) (is.shard_headers s low),
+            );
           })
 
       -- disks that are back have room for what is kept for their open batches
@@ -235,20 +262,24 @@ module _ {D : Type 0} (device : Ghosts D) where
       rooms_each n inside d told =
           let x = seen_back n inside in
           let s = x.1.has.0 in
-          let own : used_of x.0.journal + kept_room h.shape x.0.journal ≤ x.0.capacity = subst (λ k. used_of x.0.journal + kept_room k x.0.journal ≤ x.0.capacity) x.1.has.1 s.room in
+          let own : used_of x.0.journal + kept_room h.shape x.0.journal ≤ x.0.capacity =
+          subst (λ k. used_of x.0.journal + kept_room k x.0.journal ≤ x.0.capacity) x.1.has.1 s.room in
           let size : x.0.capacity ≡ device.limit d = s.capacity ∙ ap device.limit (sym (x.1.back d told)) in
-          subst (λ J. used_of J + kept_room h.shape J ≤ device.limit d) (sym x.2.journal) (subst (λ m. used_of x.0.journal + kept_room h.shape x.0.journal ≤ m) size own)
+          subst (λ J. used_of J + kept_room h.shape J ≤ device.limit d) (sym x.2.journal)
+          (subst (λ m. used_of x.0.journal + kept_room h.shape x.0.journal ≤ m) size own)
 
       -- and what is in flight had room
       pub fits_each : (n : ℕ) → n < node_count h.shape
-          → OfTold (held n) (λ d. IfSome (flights_of h.shape logs shards n) (λ r. used_of (node_journals h.shape logs shards n) + need_of h.shape (node_journals h.shape logs shards n) r ≤ device.limit d))
+          → OfTold (held n) (λ d. IfSome (flights_of h.shape logs shards n)
+          (λ r. used_of (node_journals h.shape logs shards n) + need_of h.shape (node_journals h.shape logs shards n) r ≤ device.limit d))
       fits_each n inside d told =
           let x = seen_back n inside in
           let s = x.1.has.0 in
           let own : IfSome x.0.flight (λ r. used_of x.0.journal + need_of h.shape x.0.journal r ≤ x.0.capacity) =
           subst (λ k. IfSome x.0.flight (λ r. used_of x.0.journal + need_of k x.0.journal r ≤ x.0.capacity)) x.1.has.1 s.fits in
           let size : x.0.capacity ≡ device.limit d = s.capacity ∙ ap device.limit (sym (x.1.back d told)) in
-          subst (λ f. IfSome f (λ r. used_of (node_journals h.shape logs shards n) + need_of h.shape (node_journals h.shape logs shards n) r ≤ device.limit d)) (sym x.2.flight)
+          subst (λ f. IfSome f (λ r. used_of (node_journals h.shape logs shards n) + need_of h.shape (node_journals h.shape logs shards n) r
+          ≤ device.limit d)) (sym x.2.flight)
           (subst (λ J. IfSome x.0.flight (λ r. used_of J + need_of h.shape J r ≤ device.limit d)) (sym x.2.journal)
           (subst (λ m. IfSome x.0.flight (λ r. used_of x.0.journal + need_of h.shape x.0.journal r ≤ m)) size own))
 
@@ -280,9 +311,11 @@ module _ {D : Type 0} (device : Ghosts D) where
       → ((n : ℕ) → capacity_of h.shape now after n ≡ capacity_of h.shape logs shards n)
       → (n : ℕ) → n < node_count h.shape → SameRoom device (held n) (back n)
   rooms_same held back h logs now shards after are g shape is seen logs_back shards_back same n inside was told d is_now =
-      let y = put_back back g now after is logs_back shards_back (IsSeen device) seen.logs_are seen.shards_are n (subst (λ k. n < node_count k) (sym shape) inside) in
+      let y = put_back back g now after is logs_back shards_back (IsSeen device) seen.logs_are seen.shards_are n
+      (subst (λ k. n < node_count k) (sym shape) inside) in
       let now_is : capacity_of h.shape now after n ≡ y.0.capacity = ap (λ k. capacity_of k now after n) (sym shape) ∙ y.2.capacity in
-      ap device.limit (y.1.back d is_now) ∙ sym y.1.has.capacity ∙ sym now_is ∙ same n ∙ may_hold held h logs shards are n (capacity_of h.shape logs shards n) inside refl was told
+      ap device.limit (y.1.back d is_now) ∙ sym y.1.has.capacity ∙ sym now_is ∙ same n
+      ∙ may_hold held h logs shards are n (capacity_of h.shape logs shards n) inside refl was told
 
   -- a count that had not fallen before it rose
   rose_by : (opened faults before behind : ℕ) → HasRisen opened faults → before ≤ opened → faults ≤ behind → Rose before behind
@@ -299,7 +332,8 @@ module _ {D : Type 0} (device : Ghosts D) where
       let shards_are : length after ≡ h.shape.shards = shards_stay held h logs now shards after are g shape is in
       let x = node_there h.shape logs shards are.coordinators are.shards_are (λ k x. before k ≤ x.opened)
       (λ k l there. let own = are.logs_at k l there in subst (λ m. before k ≤ m) (sym (own.since ∙ own.faults)) (logs_since k l there))
-      (λ s x there. let own = are.shards_at s x there in subst (λ m. before (h.shape.coordinators + s) ≤ m) (sym (own.since ∙ own.faults)) (shards_since s x there)) n inside in
+      (λ s x there. let own = are.shards_at s x there in
+      subst (λ m. before (h.shape.coordinators + s) ≤ m) (sym (own.since ∙ own.faults)) (shards_since s x there)) n inside in
       let y = node_there h.shape now after logs_are shards_are (λ k y. y.faults ≤ behind k)
       (λ k l there. subst (λ m. m ≤ behind k) (sym (by_all (IsSeen device) now seen.logs_are k l there).faults) (logs_counted k l there))
       (λ s x there. subst (λ m. m ≤ behind (h.shape.coordinators + s)) (sym (by_all (IsSeen device) after seen.shards_are s x there).faults)

@@ -1,5 +1,6 @@
 -- Opened nodes whose history is caused are checked.
-use Rattle.std.proofs.Common.{◌≡◌, inl, inr, ℕ, zero, suc, ◌+◌, ◌-◌, ◌<◌, ◌≤◌, false, nat_lt, if◌then◌else◌, List, [], ◌∷◌, length, reverse, refl, sym, ap, ◌∙◌, subst, arith, Option}
+use Rattle.std.proofs.Common.{◌≡◌, inl, inr, ℕ, zero, suc, ◌+◌, ◌-◌, ◌<◌, ◌≤◌, false, nat_lt, if◌then◌else◌, List, [], ◌∷◌, length, reverse, refl}
+use Rattle.std.proofs.Common.{sym, ap, ◌∙◌, subst, arith, Option}
 use Rattle.std.proofs.lemmas.Bool.{cases_lt}
 use Rattle.outside.specs.declared.disk.Disk.{Ghosts}
 use Rattle.cbdc_model.specs.Records.{Digest, Shape, Header, Row, journal}
@@ -24,10 +25,15 @@ use Rattle.run_laws.proofs.Checked.{Any, to_checked}
 -- ---- checked journals
 
 -- of caused rows of a ledger's journals
-checked_rows : (K : Shape) (genesis : Digest) → 0 < K.shards → (past : List Row) → AllCaused K past → AreLedgerJournals K genesis (λ n. journal n past) → (m : Minted) × CheckedJournals K m (λ n. journal n past)
+checked_rows : (K : Shape) (genesis : Digest) → 0 < K.shards → (past : List Row) → AllCaused K past
+    → AreLedgerJournals K genesis (λ n. journal n past) → (m : Minted) × CheckedJournals K m (λ n. journal n past)
 checked_rows K genesis some past caused are =
-    let b = begun K genesis (λ n. journal n past) some are in
-    (b.0, to_checked K b.0 (λ n. journal n past) some (steady_lists K b.0 Any (λ n. journal n past) (caused_lists K b.0 past (subst (λ g. AreLedgerJournals K g (λ n. journal n past)) (sym b.1) are) b.2 caused)))
+    let b = begun K genesis (λ n. journal n past) some are in (
+      b.0,
+      to_checked K b.0 (λ n. journal n past) some
+          (steady_lists K b.0 Any (λ n. journal n past)
+          (caused_lists K b.0 past (subst (λ g. AreLedgerJournals K g (λ n. journal n past)) (sym b.1) are) b.2 caused)),
+    )
 
 -- ---- opened nodes
 
@@ -50,7 +56,8 @@ module _ {D : Type 0} (device : Ghosts D) (held : ℕ → Option D) (h : Header)
   at_shard : (s : ℕ) → s < h.shape.shards → node_journals h.shape logs shards (h.shape.coordinators + s) ≡ journal (h.shape.coordinators + s) History
   at_shard s low =
       let x = at_place shards s (omega (arith, low, are.shards_are)) in
-      shard_seen h.shape logs shards s x.0 x.1 ∙ shard_told logs shards caused.rows caused.merged s x.0 x.1 ∙ ap (λ k. journal (k + s) History) are.coordinators
+      shard_seen h.shape logs shards s x.0 x.1 ∙ shard_told logs shards caused.rows caused.merged s x.0 x.1
+      ∙ ap (λ k. journal (k + s) History) are.coordinators
 
   no_node : (n : ℕ) → h.shape.coordinators + h.shape.shards ≤ n → journal n History ≡ []
   no_node n past = none_told logs shards caused.rows caused.merged n (omega (arith, past, are.coordinators, are.shards_are))
@@ -69,7 +76,8 @@ module _ {D : Type 0} (device : Ghosts D) (held : ℕ → Option D) (h : Header)
     | inr high ↦ elim (cases_lt n (h.shape.coordinators + h.shape.shards)) [
       | inl inside ↦
           let place : h.shape.coordinators + (n - h.shape.coordinators) ≡ n = omega (arith, high) in
-          subst (λ k. node_journals h.shape logs shards k ≡ journal k History) place (at_shard (n - h.shape.coordinators) (omega (arith, high, inside)))
+          subst (λ k. node_journals h.shape logs shards k ≡ journal k History) place
+          (at_shard (n - h.shape.coordinators) (omega (arith, high, inside)))
       | inr past ↦ past_all n past
     ]
   ]
@@ -79,21 +87,25 @@ module _ {D : Type 0} (device : Ghosts D) (held : ℕ → Option D) (h : Header)
   log_is n low =
       let l = at_place logs n (omega (arith, low, are.coordinators)) in
       let own = are.logs_at n l.0 l.1 in
-      subst (λ J. IsJournal (header_of h.shape h.genesis n) J) (log_told logs shards caused.rows caused.merged n l.0 l.1) (subst (λ k. IsJournal k l.0.journal) own.header own.journal)
+      subst (λ J. IsJournal (header_of h.shape h.genesis n) J) (log_told logs shards caused.rows caused.merged n l.0 l.1)
+      (subst (λ k. IsJournal k l.0.journal) own.header own.journal)
 
-  shard_is : (s : ℕ) → s < h.shape.shards → IsJournal (header_of h.shape h.genesis (h.shape.coordinators + s)) (journal (h.shape.coordinators + s) History)
+  shard_is : (s : ℕ) → s < h.shape.shards → IsJournal (header_of h.shape h.genesis (h.shape.coordinators + s))
+      (journal (h.shape.coordinators + s) History)
   shard_is s low =
       let x = at_place shards s (omega (arith, low, are.shards_are)) in
       let own = are.shards_at s x.0 x.1 in
       subst (λ J. IsJournal (header_of h.shape h.genesis (h.shape.coordinators + s)) J)
-      (shard_told logs shards caused.rows caused.merged s x.0 x.1 ∙ ap (λ k. journal (k + s) History) are.coordinators) (subst (λ k. IsJournal k x.0.journal) own.header own.journal)
+      (shard_told logs shards caused.rows caused.merged s x.0 x.1 ∙ ap (λ k. journal (k + s) History) are.coordinators)
+      (subst (λ k. IsJournal k x.0.journal) own.header own.journal)
 
   each_is : (n : ℕ) → n < h.shape.coordinators + h.shape.shards → IsJournal (header_of h.shape h.genesis n) (journal n History)
   each_is n inside = elim (cases_lt n h.shape.coordinators) [
     | inl low ↦ log_is n low
     | inr high ↦
         let place : h.shape.coordinators + (n - h.shape.coordinators) ≡ n = omega (arith, high) in
-        subst (λ k. IsJournal (header_of h.shape h.genesis k) (journal k History)) place (shard_is (n - h.shape.coordinators) (omega (arith, high, inside)))
+        subst (λ k. IsJournal (header_of h.shape h.genesis k) (journal k History)) place
+        (shard_is (n - h.shape.coordinators) (omega (arith, high, inside)))
   ]
 
   pub opened_checked : HaveCheckedJournals h.shape logs shards

@@ -1,5 +1,6 @@
 -- Client files as what a command does over a ledger: what they leave, and what that is of the journals at entry.
-use Rattle.std.proofs.Common.{◌≡◌, inl, inr, ℕ, ◌*◌, ◌<◌, ◌==◌, false, List, [], ◌∷◌, ◌++◌, length, reverse, Bool, Option, Result, Ok, Err, refl, sym, ap, ◌∙◌, subst, arith}
+use Rattle.std.proofs.Common.{◌≡◌, inl, inr, ℕ, ◌*◌, ◌<◌, ◌==◌, false, List, [], ◌∷◌, ◌++◌, length, reverse, Bool, Option, Result, Ok, Err, refl, sym}
+use Rattle.std.proofs.Common.{ap, ◌∙◌, subst, arith}
 use Rattle.std.specs.Prelude.{IfOk, IfErr}
 use Rattle.std.specs.Global.{Vec}
 use Rattle.outside.specs.declared.disk.Disk.{Ghosts}
@@ -55,42 +56,59 @@ none_of (x ∷ xs) e = absurd (omega (arith, e))
 
 -- submissions of files that were run behind it
 pub over_keeps : (K H : Shape) (files : List (List FullTx)) (I M J : ℕ → List Record) → H ≡ K → OfKept K I (StaysKept K I M)
-    → OfKept H M (λ mint submissions. StaysKept H M J mint (submissions ++ joined files)) → OfKept K I (λ mint submissions. StaysKept K I J mint (submissions ++ joined files))
+    → OfKept H M (λ mint submissions. StaysKept H M J mint (submissions ++ joined files))
+    → OfKept K I (λ mint submissions. StaysKept K I J mint (submissions ++ joined files))
 over_keeps K H files I M J e one two mint submissions kept =
     let a = one mint submissions kept in
     let b = subst (λ k. OfKept k M (λ m s. StaysKept k M J m (s ++ joined files))) e two mint submissions a.kept in
     record { grows = λ n. end_trans (I n) (M n) (J n) (a.grows n) (b.grows n); kept = b.kept }
 
 -- files behind the open batches, run or cut short
-pub over_cuts : (K H : Shape) (verdicts : VerdictsOf) (files : List (List FullTx)) (I M J : ℕ → List Record) → H ≡ K → 0 < length files → OfKept K I (StaysKept K I M) → OfKept K I (λ _ _. IsResumed K I M)
-    → OfKept H M (λ mint _. (sound : FullTx → Bool) (E : ℕ → List Record) → TellsSound verdicts sound → IsResumed H E M → AreRunOrCut H sound files mint E J)
+pub over_cuts : (K H : Shape) (verdicts : VerdictsOf) (files : List (List FullTx)) (I M J : ℕ → List Record) → H ≡ K → 0 < length files
+    → OfKept K I (StaysKept K I M) → OfKept K I (λ _ _. IsResumed K I M)
+    → OfKept H M (λ mint _. (sound : FullTx → Bool) (E : ℕ → List Record) → TellsSound verdicts sound → IsResumed H E M
+    → AreRunOrCut H sound files mint E J)
     → OfKept K I (λ mint _. (sound : FullTx → Bool) → TellsSound verdicts sound → IsRunOrCut K sound files mint I J)
 over_cuts K H verdicts files I M J e some one resumed two mint submissions kept sound tells = inr (
   some,
-  subst (λ k. OfKept k M (λ mint _. (test : FullTx → Bool) (E : ℕ → List Record) → TellsSound verdicts test → IsResumed k E M → AreRunOrCut k test files mint E J)) e two mint submissions (one mint submissions kept).kept
+  subst (λ k. OfKept k M (λ mint _. (test : FullTx → Bool) (E : ℕ → List Record) → TellsSound verdicts test → IsResumed k E M
+      → AreRunOrCut k test files mint E J)) e two mint submissions (one mint submissions kept).kept
       sound I tells (resumed mint submissions kept),
 )
 
 -- kept journals that were cut short have grown in the order of open batches and files
-pub cut_waves : (K : Shape) (verdicts : VerdictsOf) (files : List (List FullTx)) (E X : ℕ → List Record) → 0 < K.shards → 0 < K.lanes → OfKept K E (λ mint submissions. StaysKept K E X mint (submissions ++ joined files))
-    → OfKept K E (λ mint _. (sound : FullTx → Bool) → TellsSound verdicts sound → IsRunOrCut K sound files mint E X) → OfKept K E (λ _ _. (sound : FullTx → Bool) → TellsSound verdicts sound → IsCutWaves K sound files E X)
+pub cut_waves : (K : Shape) (verdicts : VerdictsOf) (files : List (List FullTx)) (E X : ℕ → List Record) → 0 < K.shards → 0 < K.lanes
+    → OfKept K E (λ mint submissions. StaysKept K E X mint (submissions ++ joined files))
+    → OfKept K E (λ mint _. (sound : FullTx → Bool) → TellsSound verdicts sound → IsRunOrCut K sound files mint E X)
+    → OfKept K E (λ _ _. (sound : FullTx → Bool) → TellsSound verdicts sound → IsCutWaves K sound files E X)
 cut_waves K verdicts files E X shards lanes keeps cut mint submissions kept sound tells = elim (cut mint submissions kept sound tells) [
   | inl same ↦ inl (open_batches K mint submissions (submissions ++ joined files) E X shards kept stays.kept stays.grows same)
   | inr c ↦
       let a = c.1 in
-      inr (c.0, a.done, a.more, a.middle, a.are, a.waves, new_batches K mint a.submissions (submissions ++ joined files) a.middle X shards a.kept stays.kept a.onward lanes a.idle, a.first)
+      inr (
+        c.0,
+        a.done,
+        a.more,
+        a.middle,
+        a.are,
+        a.waves,
+        new_batches K mint a.submissions (submissions ++ joined files) a.middle X shards a.kept stays.kept a.onward lanes a.idle,
+        a.first,
+      )
 ]
   where
     stays : StaysKept K E X mint (submissions ++ joined files)
     stays = keeps mint submissions kept
 
 -- where open batches were brought to their end nothing was begun
-pub resumed_begun : (K : Shape) (verdicts : VerdictsOf) (files : List (List FullTx)) (E M : ℕ → List Record) → SamePrepared K E M → 0 < K.batch → HaveBegunFiles K verdicts files E M
+pub resumed_begun : (K : Shape) (verdicts : VerdictsOf) (files : List (List FullTx)) (E M : ℕ → List Record) → SamePrepared K E M → 0 < K.batch
+    → HaveBegunFiles K verdicts files E M
 resumed_begun K verdicts files E M same some lane inside sound tells =
     let (done, more, pieces, none) = files_unbegun K verdicts files E some lane inside sound tells in (done, more, pieces, same lane ∙ none)
 
 -- and what was begun behind that is begun of all
-pub filed_begun : (K H : Shape) (verdicts : VerdictsOf) (files : List (List FullTx)) (E M X : ℕ → List Record) → H ≡ K → SamePrepared K E M → (0 < H.batch → HaveBegunFiles H verdicts files M X)
+pub filed_begun : (K H : Shape) (verdicts : VerdictsOf) (files : List (List FullTx)) (E M X : ℕ → List Record) → H ≡ K → SamePrepared K E M
+    → (0 < H.batch → HaveBegunFiles H verdicts files M X)
     → 0 < K.batch → HaveBegunFiles K verdicts files E X
 filed_begun K H verdicts files E M X same unprepared begun some lane inside sound tells =
     let (done, more, pieces, has) = subst (λ k. 0 < k.batch → HaveBegunFiles k verdicts files M X) same begun some lane inside sound tells in
@@ -106,7 +124,8 @@ files_since verdicts files K E M X unprepared lane txs inside piece sound tells 
 -- ---- what files leave
 
 -- where there are none
-pub none_leave : (verdicts : VerdictsOf) (files : List (List FullTx)) (K : Shape) (M : ℕ → List Record) (F : ℕ → Option Record) (failed : ℕ → Type 0) → AreIdle K M
+pub none_leave : (verdicts : VerdictsOf) (files : List (List FullTx)) (K : Shape) (M : ℕ → List Record) (F : ℕ → Option Record) (failed : ℕ → Type 0)
+    → AreIdle K M
     → LeavesWork (files_deed verdicts files) K M M F F failed
 none_leave verdicts files K M F failed idle = record {
   grows = λ n. end_self (M n);
@@ -121,7 +140,8 @@ none_leave verdicts files K M F failed idle = record {
   );
 }
 
-pub none_end : (verdicts : VerdictsOf) (files : List (List FullTx)) (K : Shape) (M : ℕ → List Record) (waves : Vec Wave) → files ≡ [] → waves.items ≡ [] → AreIdle K M
+pub none_end : (verdicts : VerdictsOf) (files : List (List FullTx)) (K : Shape) (M : ℕ → List Record) (waves : Vec Wave) → files ≡ []
+    → waves.items ≡ [] → AreIdle K M
     → WorkEndsWell (files_deed verdicts files) K M M waves
 none_end verdicts files K M waves none nothing idle = record {
   idle = idle;
@@ -132,10 +152,13 @@ none_end verdicts files K M waves none nothing idle = record {
 }
 
 -- where there are some
-pub files_leave : (verdicts : VerdictsOf) (files : List (List FullTx)) (K : Shape) (M X : ℕ → List Record) (F G : ℕ → Option Record) (failed : ℕ → Type 0) → 0 < length files
-    → ((n : ℕ) → IsEnd (M n) (X n)) → OfKept K M (λ mint submissions. StaysKept K M X mint (submissions ++ joined files)) → OfKept K M (FliesWith K (joined files) M X F G)
+pub files_leave : (verdicts : VerdictsOf) (files : List (List FullTx)) (K : Shape) (M X : ℕ → List Record) (F G : ℕ → Option Record)
+    (failed : ℕ → Type 0) → 0 < length files
+    → ((n : ℕ) → IsEnd (M n) (X n)) → OfKept K M (λ mint submissions. StaysKept K M X mint (submissions ++ joined files))
+    → OfKept K M (FliesWith K (joined files) M X F G)
     → Launches K (IsFilesPiece K verdicts files M X) M X F G → LanesRest K X failed → (0 < K.batch → HaveBegunFiles K verdicts files M X)
-    → OfKept K M (λ mint _. (sound : FullTx → Bool) (E : ℕ → List Record) → TellsSound verdicts sound → IsResumed K E M → AreRunOrCut K sound files mint E X)
+    → OfKept K M (λ mint _. (sound : FullTx → Bool) (E : ℕ → List Record) → TellsSound verdicts sound → IsResumed K E M
+    → AreRunOrCut K sound files mint E X)
     → LeavesWork (files_deed verdicts files) K M X F G failed
 files_leave verdicts files K M X F G failed some grows keeps flies launches rests begun cut = record {
   grows = grows;
@@ -152,13 +175,21 @@ files_leave verdicts files K M X F G failed some grows keeps flies launches rest
 }
 
 -- and that is a work
-pub files_worked : {D : Type 0} (device : Ghosts D) (verdicts : VerdictsOf) (files : List (List FullTx)) (l now : LedgerOf D) (came : Result (Vec Wave) LaneFault) → 0 < length files
+pub files_worked : {D : Type 0} (device : Ghosts D) (verdicts : VerdictsOf) (files : List (List FullTx)) (l now : LedgerOf D)
+    (came : Result (Vec Wave) LaneFault) → 0 < length files
     → Stretch (filed verdicts files) (ledger_sight device l) (ledger_sight device now) came → HasWorked device (files_deed verdicts files) l now came
 files_worked device verdicts files l now came some s = record {
-  keeps_ledger = record { shape_same = s.shape_same; opened_same = s.is.opened_same; later = s.is.later; capacity_same = s.is.capacity_same; held = s.is.held };
+  keeps_ledger = record {
+    shape_same = s.shape_same;
+    opened_same = s.is.opened_same;
+    later = s.is.later;
+    capacity_same = s.is.capacity_same;
+    held = s.is.held;
+  };
   checked = s.is.checked;
   quiet = s.is.quiet;
-  leaves = files_leave verdicts files K M X (ledger_flights l) (ledger_flights now) failed some s.is.grows s.is.keeps s.is.flies s.is.launches (rest came s.is.did s.is.ends) s.is.begun.0 s.is.begun.1;
+  leaves = files_leave verdicts files K M X (ledger_flights l) (ledger_flights now) failed some s.is.grows s.is.keeps s.is.flies s.is.launches
+      (rest came s.is.did s.is.ends) s.is.begun.0 s.is.begun.1;
   well = well came s.is.did;
   badly = badly came s.is.cause s.is.ends;
 }
@@ -178,15 +209,18 @@ files_worked device verdicts files l now came some s = record {
     holds : ℕ → ℕ → Type 0
     holds = MayHoldBytes (ledger_capacity now)
 
-    rest : (o : Result (Vec Wave) LaneFault) → IfOk o (λ ws. DidFiles K verdicts files M X ws.items) → IfErr o (λ e. EndsFiles K verdicts files M X failed holds e × LanesRest K X failed) → LanesRest K X failed
+    rest : (o : Result (Vec Wave) LaneFault) → IfOk o (λ ws. DidFiles K verdicts files M X ws.items)
+        → IfErr o (λ e. EndsFiles K verdicts files M X failed holds e × LanesRest K X failed) → LanesRest K X failed
     rest (Ok ws) did ends lane inside = inl (inl (did.idle lane inside))
     rest (Err e) did ends lane inside = ends.1 lane inside
 
-    well : (o : Result (Vec Wave) LaneFault) → IfOk o (λ ws. DidFiles K verdicts files M X ws.items) → IfOk o (WorkEndsWell (files_deed verdicts files) K M X)
+    well : (o : Result (Vec Wave) LaneFault) → IfOk o (λ ws. DidFiles K verdicts files M X ws.items)
+        → IfOk o (WorkEndsWell (files_deed verdicts files) K M X)
     well (Ok ws) did = record { idle = did.idle; did = λ mint submissions kept. (did.waves mint submissions kept, did.told mint submissions kept) }
     well (Err e) did = tt
 
-    badly : (o : Result (Vec Wave) LaneFault) → IfErr o (IsRunCause K (IsFilesPiece K verdicts files M X) M X failed holds) → IfErr o (λ e. EndsFiles K verdicts files M X failed holds e × LanesRest K X failed)
+    badly : (o : Result (Vec Wave) LaneFault) → IfErr o (IsRunCause K (IsFilesPiece K verdicts files M X) M X failed holds)
+        → IfErr o (λ e. EndsFiles K verdicts files M X failed holds e × LanesRest K X failed)
         → IfErr o (EndsBadly (files_deed verdicts files) K M X failed holds)
     badly (Ok ws) cause ends = tt
     badly (Err e) cause ends = record { cause = cause; ends = ends.0 }
@@ -198,9 +232,11 @@ module _ (K : Shape) (failed fails : ℕ → Type 0) (holds held : ℕ → ℕ �
   met_by : (sent : ℕ → List Compact) (next : ℕ → List Compact → Type 0) (I J : ℕ → List Record) (lane : ℕ) → IsLaneOf K lane
       → HasRunOrMet K lane (sent lane) (next lane) I J failed holds → HasRunOrMet K lane (sent lane) (next lane) I J fails held
   met_by sent next I J lane inside (inl ran) = inl ran
-  met_by sent next I J lane inside (inr (own, cause)) = inr (own, cause_by K failed fails holds held failed_on held_on lane (next lane) I J inside own.node own.fault cause)
+  met_by sent next I J lane inside (inr (own, cause)) =
+      inr (own, cause_by K failed fails holds held failed_on held_on lane (next lane) I J inside own.node own.fault cause)
 
-  least_fault_by : (sent : ℕ → List Compact) (next : ℕ → List Compact → Type 0) (I J : ℕ → List Record) (e : LaneFault) → IsLeastFault K sent next I J failed holds e → IsLeastFault K sent next I J fails held e
+  least_fault_by : (sent : ℕ → List Compact) (next : ℕ → List Compact → Type 0) (I J : ℕ → List Record) (e : LaneFault)
+      → IsLeastFault K sent next I J failed holds e → IsLeastFault K sent next I J fails held e
   least_fault_by sent next I J e h = record {
     lane = h.lane;
     is_lane = h.is_lane;
@@ -208,19 +244,23 @@ module _ (K : Shape) (failed fails : ℕ → Type 0) (holds held : ℕ → ℕ �
     lesser = h.lesser;
   }
 
-  wave_by : (sent : ℕ → List Compact) (next : ℕ → List Compact → Type 0) (I J : ℕ → List Record) (e : LaneFault) → EndsWave K sent next I J failed holds e → EndsWave K sent next I J fails held e
+  wave_by : (sent : ℕ → List Compact) (next : ℕ → List Compact → Type 0) (I J : ℕ → List Record) (e : LaneFault)
+      → EndsWave K sent next I J failed holds e → EndsWave K sent next I J fails held e
   unfolding least_fault_by
   wave_by sent next I J e h = record {
     least = least_fault_by sent next I J e h.least;
     greater = λ lane inside low. met_by sent next I J lane inside (h.greater lane inside low);
   }
 
-  first_by : (verdicts : VerdictsOf) (more : List (List FullTx)) (I J : ℕ → List Record) (e : LaneFault) → EndsFirst K verdicts more I J failed holds e → EndsFirst K verdicts more I J fails held e
+  first_by : (verdicts : VerdictsOf) (more : List (List FullTx)) (I J : ℕ → List Record) (e : LaneFault)
+      → EndsFirst K verdicts more I J failed holds e → EndsFirst K verdicts more I J fails held e
   first_by verdicts [] I J e h = h
   first_by verdicts (file ∷ more) I J e (inl none, begun) = (inl none, begun)
-  first_by verdicts (file ∷ more) I J e (inr least, begun) = (inr (λ sound tells. wave_by (sent_to K sound file) (IsSentPiece K verdicts file I J) I J e (least sound tells)), begun)
+  first_by verdicts (file ∷ more) I J e (inr least, begun) =
+      (inr (λ sound tells. wave_by (sent_to K sound file) (IsSentPiece K verdicts file I J) I J e (least sound tells)), begun)
 
-  files_by : (verdicts : VerdictsOf) (files : List (List FullTx)) (I J : ℕ → List Record) (e : LaneFault) → EndsFiles K verdicts files I J failed holds e → EndsFiles K verdicts files I J fails held e
+  files_by : (verdicts : VerdictsOf) (files : List (List FullTx)) (I J : ℕ → List Record) (e : LaneFault)
+      → EndsFiles K verdicts files I J failed holds e → EndsFiles K verdicts files I J fails held e
   files_by verdicts files I J e h = record {
     done = h.done;
     more = h.more;
@@ -233,7 +273,8 @@ module _ (K : Shape) (failed fails : ℕ → Type 0) (holds held : ℕ → ℕ �
     ends = first_by verdicts h.more h.middle J e h.ends;
   }
 
-pub ends_run : (verdicts : VerdictsOf) (files : List (List FullTx)) (K : Shape) (E X : ℕ → List Record) (failed : ℕ → Type 0) (holds : ℕ → ℕ → Type 0) (e : LaneFault)
+pub ends_run : (verdicts : VerdictsOf) (files : List (List FullTx)) (K : Shape) (E X : ℕ → List Record) (failed : ℕ → Type 0)
+    (holds : ℕ → ℕ → Type 0) (e : LaneFault)
     → EndsWork (files_deed verdicts files) K E X failed holds e → EndsRun verdicts files K E X failed holds e
 ends_run verdicts files K E X failed holds e (inl alone) = inl alone
 ends_run verdicts files K E X failed holds e (inr (middle, grows, unprepared, idle, by)) = inr (
@@ -244,7 +285,8 @@ ends_run verdicts files K E X failed holds e (inr (middle, grows, unprepared, id
   files_by K (HaveFailed by.opened_at by.faults_at) failed (MayHoldBytes by.capacity_at) holds by.fails by.holds verdicts files middle X e by.ends,
 )
 
-pub begun_run : (verdicts : VerdictsOf) (files : List (List FullTx)) (K : Shape) (E X : ℕ → List Record) → BeginsWork (files_deed verdicts files) K E X → PiecesPrepared verdicts files K E X
+pub begun_run : (verdicts : VerdictsOf) (files : List (List FullTx)) (K : Shape) (E X : ℕ → List Record)
+    → BeginsWork (files_deed verdicts files) K E X → PiecesPrepared verdicts files K E X
 begun_run verdicts files K E X (inl alone, order) = (
   resumed_begun K verdicts files E X alone.unprepared alone.limits.some_batch,
   λ mint submissions kept sound tells. inl (alone.adds mint submissions kept),
@@ -252,7 +294,8 @@ begun_run verdicts files K E X (inl alone, order) = (
 )
 begun_run verdicts files K E X (inr begun, order) = (begun.0, begun.1, order)
 
-pub ends_none : (K : Shape) (E X : ℕ → List Record) (failed : ℕ → Type 0) (holds : ℕ → ℕ → Type 0) (e : LaneFault) → EndsWork no_deed K E X failed holds e → IsLeastOpen K E X failed holds e
+pub ends_none : (K : Shape) (E X : ℕ → List Record) (failed : ℕ → Type 0) (holds : ℕ → ℕ → Type 0) (e : LaneFault)
+    → EndsWork no_deed K E X failed holds e → IsLeastOpen K E X failed holds e
 ends_none K E X failed holds e (inl alone) = alone.1
 ends_none K E X failed holds e (inr (middle, grows, unprepared, idle, by)) = absurd by.ends
 
@@ -260,11 +303,13 @@ pub begun_none : (K : Shape) (E X : ℕ → List Record) → BeginsWork no_deed 
 begun_none K E X (inl alone, order) = (λ lane inside. alone.unprepared lane, alone.adds, order)
 begun_none K E X (inr alone, order) = (λ lane inside. alone.unprepared lane, alone.adds, order)
 
-pub through_run : (verdicts : VerdictsOf) (files : List (List FullTx)) (K : Shape) (E X : ℕ → List Record) → CameThrough (files_deed verdicts files) K E X → AllRan verdicts files K E X
+pub through_run : (verdicts : VerdictsOf) (files : List (List FullTx)) (K : Shape) (E X : ℕ → List Record)
+    → CameThrough (files_deed verdicts files) K E X → AllRan verdicts files K E X
 through_run verdicts files K E X all =
     let w = all.well in (
       w.well.idle,
-      λ mint submissions kept sound tells. (w.well.did mint submissions (w.behind.keeps mint submissions kept).kept).0 sound E tells (w.behind.resumed mint submissions kept),
+      λ mint submissions kept sound tells. (w.well.did mint submissions (w.behind.keeps mint submissions kept).kept).0 sound E tells
+          (w.behind.resumed mint submissions kept),
     )
 
 pub through_none : (K : Shape) (E X : ℕ → List Record) → CameThrough no_deed K E X → AllResumed K E X
@@ -275,7 +320,8 @@ through_none K E X all =
 
 -- ---- what they did
 
-pub told_run : {D : Type 0} (device : Ghosts D) (held : ℕ → Option D) (verdicts : VerdictsOf) (files : List (List FullTx)) (told : Told (Vec Wave)) (ran : Ran)
+pub told_run : {D : Type 0} (device : Ghosts D) (held : ℕ → Option D) (verdicts : VerdictsOf) (files : List (List FullTx)) (told : Told (Vec Wave))
+    (ran : Ran)
     → (ran.resumed ≡ told.resumed) × (ran.waves ≡ told.done) × (ran.unspent ≡ told.unspent)
     → (K : Shape) (mint : List Output) (submissions : List FullTx) (E : ℕ → List Record) → KeptJournals K mint submissions E
     → HasEndedWork device held (files_deed verdicts files) told K mint submissions E → IsRunTold device held verdicts files ran K mint submissions E
@@ -290,7 +336,8 @@ told_run device held verdicts files told ran same K mint submissions E kept h =
         disks = h.disks;
         rooms = h.rooms;
         resumed = λ none.
-            let none_ran : TellFiles K verdicts [] w.middle h.exit told.done.items = subst (λ fs. TellFiles K verdicts fs w.middle h.exit told.done.items) none did.1 in
+            let none_ran : TellFiles K verdicts [] w.middle h.exit told.done.items =
+            subst (λ fs. TellFiles K verdicts fs w.middle h.exit told.done.items) none did.1 in
             subst (λ L. IsResumed K E L) (λ i n. sym (none_ran.1 n) i) back;
         waves = did.0 (sound_by verdicts) E (is_sound_law verdicts) back;
         in_order = h.in_order;

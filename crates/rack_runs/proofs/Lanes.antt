@@ -29,7 +29,8 @@ use Rattle.rack_laws.specs.Ready.{NoneRises, ShowsKept, limit_at}
 use Rattle.rack_laws.proofs.Caused.{told_shape, told_journals}
 
 -- the pieces of files are what they are cut into
-are_cut : (K : Shape) (sound : FullTx → Bool) (files : List (List FullTx)) (lane : ℕ) (pieces : List (List Compact)) → AreFilesPieces K sound lane files pieces → AreCut K sound files lane pieces
+are_cut : (K : Shape) (sound : FullTx → Bool) (files : List (List FullTx)) (lane : ℕ) (pieces : List (List Compact))
+    → AreFilesPieces K sound lane files pieces → AreCut K sound files lane pieces
 are_cut K sound [] lane pieces none = none
 are_cut K sound (file ∷ files) lane pieces (own, more, cut, rest, is) = (own, more, cut, are_cut K sound files lane more rest, is)
 
@@ -39,12 +40,16 @@ is_concerned_there K txs s h =
     let some : is_no_part (part K.shards s 0 txs) ≡ false = grind (arith, h) in
     (inside, some)
 
-module _ (K : Shape) (mint : List Output) (sound : FullTx → Bool) (capacity : ℕ → ℕ) (files : List (List FullTx)) (E X : ℕ → List Record) (limits : IsWithinLimits K)
+module _ (K : Shape) (mint : List Output) (sound : FullTx → Bool) (capacity : ℕ → ℕ) (files : List (List FullTx)) (E X : ℕ → List Record)
+    (limits : IsWithinLimits K)
     (ample : Ample K sound capacity files E) (way : IsUnderway K (minted mint) sound files E X) (next : ℕ → List Compact → Type 0)
-    (left_of : (lane : ℕ) (txs : List Compact) → IsLaneOf K lane → next lane txs → (left : List (List Compact)) × HasBatchesLeft K sound files E X lane (txs ∷ left))
-    (failed : ℕ → Type 0) (may_hold : ℕ → ℕ → Type 0) (none : (n : ℕ) → n < node_count K → failed n → ⊥) (holds : (n c : ℕ) → n < node_count K → may_hold n c → c ≡ capacity n) where
+    (left_of : (lane : ℕ) (txs : List Compact) → IsLaneOf K lane → next lane txs
+    → (left : List (List Compact)) × HasBatchesLeft K sound files E X lane (txs ∷ left))
+    (failed : ℕ → Type 0) (may_hold : ℕ → ℕ → Type 0) (none : (n : ℕ) → n < node_count K → failed n → ⊥)
+    (holds : (n c : ℕ) → n < node_count K → may_hold n c → c ≡ capacity n) where
   -- there is room for what a lane wants
-  has_room : (lane node : ℕ) (front : List Record) (r : Record) → IsLaneOf K lane → IsWanted K lane (next lane) X node front r → IsEnd (E node) front → IsEnd front (X node) → HasRoom K capacity node front r
+  has_room : (lane node : ℕ) (front : List Record) (r : Record) → IsLaneOf K lane → IsWanted K lane (next lane) X node front r → IsEnd (E node) front
+      → IsEnd front (X node) → HasRoom K capacity node front r
   has_room lane node front r lt (wants_prepare txs is at idle e) since within =
       let (left, has) = left_of lane txs lt is in
       let room = prepare_room_law K (minted mint) sound capacity files E X lane txs left front limits ample way lt has
@@ -92,13 +97,15 @@ module _ (K : Shape) (mint : List Output) (sound : FullTx → Bool) (capacity : 
 -- ---- on a rack
 
 module _ {D : Type 0} (device : Ghosts D) (before after : Disks D)
-    (K : Shape) (mint : List Output) (submissions : List FullTx) (E : ℕ → List Record) (ready : ShowsKept device before.held K mint submissions E) (steady : NoneRises K before.faults after.faults)
+    (K : Shape) (mint : List Output) (submissions : List FullTx) (E : ℕ → List Record) (ready : ShowsKept device before.held K mint submissions E)
+    (steady : NoneRises K before.faults after.faults)
     (sound : FullTx → Bool) where
   may_hold : (n c : ℕ) → n < node_count K → DiskMayHold device before n c → c ≡ limit_at device (before.held n)
   may_hold n c inside told = let s = ready.shown n inside in told s.0 s.1 ∙ ap (limit_at device) (sym s.1)
 
   module _ (turns : Turns) (ample : Ample K sound (λ n. limit_at device (before.held n)) turns.handed E)
-      (lefts : (X : ℕ → List Record) → ((lane : ℕ) (txs : List Compact) → IsLaneOf K lane → turns.next K E X lane txs → (left : List (List Compact)) × HasBatchesLeft K sound turns.handed E X lane (txs ∷ left))
+      (lefts : (X : ℕ → List Record) → ((lane : ℕ) (txs : List Compact) → IsLaneOf K lane → turns.next K E X lane txs
+      → (left : List (List Compact)) × HasBatchesLeft K sound turns.handed E X lane (txs ∷ left))
       × (turns.begun K E X → (lane : ℕ) → IsLaneOf K lane → (left : List (List Compact)) × HasBatchesLeft K sound turns.handed E X lane left)) where
     -- from the journals themselves
     from_these : (X : ℕ → List Record) → IsGrown K mint (submissions ++ joined turns.handed) E X → turns.begun K E X → (a : Answer)
@@ -110,15 +117,21 @@ module _ {D : Type 0} (device : Ghosts D) (before after : Disks D)
           grows = grown.grows;
           lanes = (lefts X).1 prepared;
         } in
-        answer_none K mint sound (λ n. limit_at device (before.held n)) turns.handed E X ready.limits ample way (turns.next K E X) (lefts X).0 (RoseAt before after) (DiskMayHold device before) steady may_hold a cause
+        answer_none K mint sound (λ n. limit_at device (before.held n)) turns.handed E X ready.limits ample way (turns.next K E X) (lefts X).0
+        (RoseAt before after) (DiskMayHold device before) steady may_hold a cause
 
     pub fault_none : (a : Answer) → IsLaneFault device before after turns a → a ≡ answers.Memory
     fault_none a fault =
-        let shape : fault.ledger.shape ≡ K = told_shape device before.held K mint submissions E ready fault.ledger.shape fault.ledger.genesis fault.ledger.rows fault.ledger.history in
-        let journals : (λ n. journal n (reverse fault.ledger.rows)) ≡ E = λ i n. told_journals device before.held K mint submissions E ready fault.ledger.shape fault.ledger.genesis fault.ledger.rows fault.ledger.history n i in
-        let grown : IsGrown K mint (submissions ++ joined turns.handed) E fault.exit = (fault.kept K mint submissions E ready.limits ready.shown ready.kept).grown in
+        let shape : fault.ledger.shape ≡ K = told_shape device before.held K mint submissions E ready fault.ledger.shape fault.ledger.genesis
+        fault.ledger.rows fault.ledger.history in
+        let journals : (λ n. journal n (reverse fault.ledger.rows)) ≡ E =
+        λ i n. told_journals device before.held K mint submissions E ready fault.ledger.shape fault.ledger.genesis fault.ledger.rows
+        fault.ledger.history n i in
+        let grown : IsGrown K mint (submissions ++ joined turns.handed) E fault.exit =
+        (fault.kept K mint submissions E ready.limits ready.shown ready.kept).grown in
         subst (λ k. (L : ℕ → List Record) → L ≡ E → turns.begun k L fault.exit
-        → IsLaneAnswer k (turns.next k L fault.exit) L fault.exit (RoseAt before after) (DiskMayHold device before) a → a ≡ answers.Memory) (sym shape)
+        → IsLaneAnswer k (turns.next k L fault.exit) L fault.exit (RoseAt before after) (DiskMayHold device before) a
+        → a ≡ answers.Memory) (sym shape)
         (λ L same. subst (λ J. turns.begun K J fault.exit
         → IsLaneAnswer K (turns.next K J fault.exit) J fault.exit (RoseAt before after) (DiskMayHold device before) a → a ≡ answers.Memory) (sym same)
         (λ prepared cause. from_these fault.exit grown prepared a cause))
@@ -126,15 +139,18 @@ module _ {D : Type 0} (device : Ghosts D) (before after : Disks D)
 
 -- of a recovery
 pub recovery_none : {D : Type 0} (device : Ghosts D) (before after : Disks D)
-    (K : Shape) (mint : List Output) (submissions : List FullTx) (E : ℕ → List Record) → ShowsKept device before.held K mint submissions E → NoneRises K before.faults after.faults
-    → (sound : FullTx → Bool) → Ample K sound (λ n. limit_at device (before.held n)) [] E → (a : Answer) → IsLaneFault device before after open_turns a → a ≡ answers.Memory
+    (K : Shape) (mint : List Output) (submissions : List FullTx) (E : ℕ → List Record) → ShowsKept device before.held K mint submissions E
+    → NoneRises K before.faults after.faults
+    → (sound : FullTx → Bool) → Ample K sound (λ n. limit_at device (before.held n)) [] E → (a : Answer)
+    → IsLaneFault device before after open_turns a → a ≡ answers.Memory
 recovery_none device before after K mint submissions E ready steady sound ample a fault =
     fault_none device before after K mint submissions E ready steady sound open_turns ample
     (λ X. ((λ lane txs lt nothing. absurd nothing), (λ none lane lt. ([], record { done = []; cut = refl; prepares = none.0 lane lt })))) a fault
 
 -- of a run
 pub run_none : {D : Type 0} (device : Ghosts D) (before after : Disks D)
-    (K : Shape) (mint : List Output) (submissions : List FullTx) (E : ℕ → List Record) → ShowsKept device before.held K mint submissions E → NoneRises K before.faults after.faults
+    (K : Shape) (mint : List Output) (submissions : List FullTx) (E : ℕ → List Record) → ShowsKept device before.held K mint submissions E
+    → NoneRises K before.faults after.faults
     → (verdicts : VerdictsOf) (files : List (List FullTx)) → Ample K (sound_by verdicts) (λ n. limit_at device (before.held n)) files E → (a : Answer)
     → IsLaneFault device before after (file_turns verdicts files) a → a ≡ answers.Memory
 run_none device before after K mint submissions E ready steady verdicts files ample a fault =
@@ -145,7 +161,8 @@ run_none device before after K mint submissions E ready steady verdicts files am
             next.1,
             record {
               done = next.0;
-              cut = are_cut K (sound_by verdicts) files lane (next.0 ++ txs ∷ next.1) (subst (AreFilesPieces K (sound_by verdicts) lane files) next.2 are);
+              cut = are_cut K (sound_by verdicts) files lane (next.0 ++ txs ∷ next.1)
+                  (subst (AreFilesPieces K (sound_by verdicts) lane files) next.2 are);
               prepares = next.3;
             },
           ))),

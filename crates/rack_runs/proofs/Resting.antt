@@ -7,7 +7,8 @@ use Rattle.cbdc_model.specs.World.{AreIdle}
 use Rattle.run_laws.specs.Faults.{IsAsked, asks_prepare, asks_log, asks_shard}
 use Rattle.lane_driver.specs.declared.fault.LaneFault.{LaneFault}
 use Rattle.lane_driver.specs.declared.fault.LaneFaultKind.{LaneFaultKind}
-use Rattle.lane_driver.specs.declared.fault.LaneFaultKind.TheVariants.{DiskFault as DiskStopped, Full as NoRoom, ClockEnd as NoStamp, Memory as NoMemory}
+use Rattle.lane_driver.specs.declared.fault.LaneFaultKind.TheVariants.{DiskFault as DiskStopped, Full as NoRoom, ClockEnd as NoStamp}
+use Rattle.lane_driver.specs.declared.fault.LaneFaultKind.TheVariants.{Memory as NoMemory}
 use Rattle.ledger_runs.specs.Turning.{lane_phase}
 use Rattle.ledger_runs.specs.Faults.{IsWanted, wants_prepare, wants_lock, IsCauseOf, IsOpenCause, Nothing, LanesRest, RestsOrWaits, AllRestOrWait}
 use Rattle.ledger_runs.specs.Least.{IsUnbegunForMemory, IsLeastOpen}
@@ -23,7 +24,8 @@ pub rest_all : (K : Shape) (E X : ℕ → List Record) (failed : ℕ → Type 0)
 rest_all K E X failed memory rests = inr (λ lane inside. inl (rests lane inside))
 
 -- what is told otherwise of memory
-pub tell_rest : (K : Shape) (E X : ℕ → List Record) (failed : ℕ → Type 0) (memory told : Type 0) → (memory → told) → AllRestBehind K E X failed memory → AllRestBehind K E X failed told
+pub tell_rest : (K : Shape) (E X : ℕ → List Record) (failed : ℕ → Type 0) (memory told : Type 0) → (memory → told)
+    → AllRestBehind K E X failed memory → AllRestBehind K E X failed told
 tell_rest K E X failed memory told on (inl (ran_out, still)) = inl (on ran_out, still)
 tell_rest K E X failed memory told on (inr all) = inr (λ lane inside. go lane (all lane inside))
   where
@@ -61,22 +63,26 @@ module _ (K : Shape) (E X : ℕ → List Record) (failed : ℕ → Type 0) (hold
   Rests lane = RestsBehind K lane E X failed (e.fault ≡ NoMemory)
 
   -- whatever came, each lane rests, or it waits where it was
-  pub rests_behind : IsLeastOpen K E X failed holds e → IsUnbegunForMemory E X e ⊎ AllRestOrWait K E X failed (λ _. Unit {0}) → AllRestBehind K E X failed (e.fault ≡ NoMemory)
+  pub rests_behind : IsLeastOpen K E X failed holds e → IsUnbegunForMemory E X e ⊎ AllRestOrWait K E X failed (λ _. Unit {0})
+      → AllRestBehind K E X failed (e.fault ≡ NoMemory)
   rests_behind least (inl unbegun) = inl unbegun
   rests_behind (inl unbegun) (inr all) = inl unbegun
   rests_behind (inr (first, is_lane, cause, lesser)) (inr all) = inr (λ lane inside. go lane (all lane inside))
     where
-      at_first : (lane : ℕ) → lane ≡ first → (lane_phase K X lane ≡ InPrepare) → RestsOrWaits K lane E X failed (Unit {0}) → IsOpenCause K lane E X failed holds e → Rests lane
+      at_first : (lane : ℕ) → lane ≡ first → (lane_phase K X lane ≡ InPrepare) → RestsOrWaits K lane E X failed (Unit {0})
+          → IsOpenCause K lane E X failed holds e → Rests lane
       at_first lane is phase (inl rests) c = inl rests
       at_first lane is phase (inr (want, waits)) (inl (memory, still)) = inr (inl memory, waits)
       at_first lane is phase (inr (want, waits)) (inr c) = inl (rests_by K lane Nothing E X failed holds e c)
 
-      behind : (lane : ℕ) → first < lane → RestsOrWaits K lane E X failed (Unit {0}) → (e.fault ≡ NoMemory) ⊎ (lane_phase K X first ≡ Idle → ⊥) → Rests lane
+      behind : (lane : ℕ) → first < lane → RestsOrWaits K lane E X failed (Unit {0}) → (e.fault ≡ NoMemory) ⊎ (lane_phase K X first ≡ Idle → ⊥)
+          → Rests lane
       behind lane low (inl rests) c = inl rests
       behind lane low (inr (want, waits)) (inl memory) = inr (inl memory, waits)
       behind lane low (inr (want, waits)) (inr busy) = inr (inr (first, low, busy), waits)
 
-      waiting : (lane : ℕ) → RestsOrWaits K lane E X failed (Unit {0}) → (lane_phase K X lane ≡ InPrepare) → (lane < first) ⊎ (first ≤ lane) → Rests lane
+      waiting : (lane : ℕ) → RestsOrWaits K lane E X failed (Unit {0}) → (lane_phase K X lane ≡ InPrepare) → (lane < first) ⊎ (first ≤ lane)
+          → Rests lane
       waiting lane came phase (inl low) = absurd (prepared_open (lane_phase K X lane) phase (lesser lane low))
       waiting lane came phase (inr low) = at (eq-or-lt_of_le low)
         where

@@ -45,9 +45,14 @@ resume_stretch device before now rs r = record {
     keeps = λ mint submissions kept.
         let stays = r.keeps mint submissions kept in
         record { grows = stays.grows; kept = kept_more before.header.shape mint submissions [] (ledger_journals now) stays.kept };
-    flies = λ mint submissions kept may. may_more before.header.shape mint submissions [] (ledger_journals now) (ledger_flights now) (r.flies mint submissions kept may);
+    flies = λ mint submissions kept may. may_more before.header.shape mint submissions [] (ledger_journals now) (ledger_flights now)
+        (r.flies mint submissions kept may);
     launches = r.launches;
-    begun = (r.prepares, r.order, λ limits. (only_open before.header.shape (ledger_journals before) (ledger_journals now) limits r.prepares r.keeps).adds);
+    begun = (
+      r.prepares,
+      r.order,
+      λ limits. (only_open before.header.shape (ledger_journals before) (ledger_journals now) limits r.prepares r.keeps).adds,
+    );
     did = record { idle = r.idle; resumed = r.resumed; told = r.told };
     cause = tt;
     ends = tt;
@@ -55,7 +60,8 @@ resume_stretch device before now rs r = record {
 }
 
 -- nothing was handed in
-plain_keeps : (K : Shape) (E M : ℕ → List Record) → OfKept K E (λ mint submissions. StaysKept K E M mint (submissions ++ [])) → OfKept K E (StaysKept K E M)
+plain_keeps : (K : Shape) (E M : ℕ → List Record) → OfKept K E (λ mint submissions. StaysKept K E M mint (submissions ++ []))
+    → OfKept K E (StaysKept K E M)
 plain_keeps K E M keeps mint submissions kept = subst (λ l. StaysKept K E M mint l) (append-nil submissions) (keeps mint submissions kept)
 
 module _ (verdicts : VerdictsOf) (files : List (List FullTx)) where
@@ -72,7 +78,8 @@ module _ (verdicts : VerdictsOf) (files : List (List FullTx)) where
           (over_cuts K K verdicts files E M X refl some (plain_keeps K E M at.keeps) at.did.resumed at.begins.1),
       (M, at.begun.1, inr (at.did.idle, at.onward)),
     );
-    did = λ K E M X ws ran at same did. subst (λ r. (run_deed verdicts files).did K E X r) (sym same) (record { middle = M; grows = at.grows; keeps = plain_keeps K E M at.keeps; unprepared = at.begun.0; back = at.did; behind = did });
+    did = λ K E M X ws ran at same did. subst (λ r. (run_deed verdicts files).did K E X r) (sym same)
+        (record { middle = M; grows = at.grows; keeps = plain_keeps K E M at.keeps; unprepared = at.begun.0; back = at.did; behind = did });
     ends = λ K E M X failed holds f at ended. (
       inr (M, at.grows, at.begun.0, at.did.idle, ended.0),
       rest_all K E X failed (f.fault ≡ NoMemory) ended.1,
@@ -95,14 +102,18 @@ module _ (verdicts : VerdictsOf) (files : List (List FullTx)) where
   }
 
   -- the resuming came through, and the files did, or a lane met a fault in them
-  pub run_on : (a m b : LedgerSight) (rs : List ResumedBatch) (ws : Vec Wave) → 0 < length files → Stretch resume_deed a m (Ok rs) → Stretch (filed verdicts files) m b (Ok ws)
+  pub run_on : (a m b : LedgerSight) (rs : List ResumedBatch) (ws : Vec Wave) → 0 < length files → Stretch resume_deed a m (Ok rs)
+      → Stretch (filed verdicts files) m b (Ok ws)
       → Stretch (run_deed verdicts files) a b (Ok (record { resumed = rs; waves = ws.items }))
   run_on a m b rs ws some one two =
-      stretch_on resume_deed (filed verdicts files) (run_deed verdicts files) rs (λ ws ran. ran ≡ record { resumed = rs; waves = ws.items }) (files_behind rs some) a m b ws (record { resumed = rs; waves = ws.items }) refl one two
+      stretch_on resume_deed (filed verdicts files) (run_deed verdicts files) rs (λ ws ran. ran ≡ record { resumed = rs; waves = ws.items })
+      (files_behind rs some) a m b ws (record { resumed = rs; waves = ws.items }) refl one two
 
-  pub run_cut : (a m b : LedgerSight) (rs : List ResumedBatch) (e : LaneFault) → 0 < length files → Stretch resume_deed a m (Ok rs) → Stretch (filed verdicts files) m b (Err e) → Stretch (run_deed verdicts files) a b (Err e)
+  pub run_cut : (a m b : LedgerSight) (rs : List ResumedBatch) (e : LaneFault) → 0 < length files → Stretch resume_deed a m (Ok rs)
+      → Stretch (filed verdicts files) m b (Err e) → Stretch (run_deed verdicts files) a b (Err e)
   run_cut a m b rs e some one two =
-      stretch_cut resume_deed (filed verdicts files) (run_deed verdicts files) rs (λ ws ran. ran ≡ record { resumed = rs; waves = ws.items }) (files_behind rs some) a m b e one two
+      stretch_cut resume_deed (filed verdicts files) (run_deed verdicts files) rs (λ ws ran. ran ≡ record { resumed = rs; waves = ws.items })
+      (files_behind rs some) a m b e one two
 
   pub run_unbegun : (a m : LedgerSight) (e : LaneFault) → Stretch resume_deed a m (Err e) → Stretch (run_deed verdicts files) a m (Err e)
   run_unbegun a m e one = stretch_cut_as resume_deed (run_deed verdicts files) (λ rs ran. ⊥) resume_cut a m e one
@@ -124,8 +135,15 @@ module _ (verdicts : VerdictsOf) (files : List (List FullTx)) where
     abbrev holds : ℕ → ℕ → Type 0
     holds = MayHoldBytes (ledger_capacity now)
 
-    keeps_of : {Done : Type 0} (d : Deed Done) (came : Result Done LaneFault) → Stretch d (ledger_sight device before) (ledger_sight device now) came → KeepsLedgerOf device before now
-    keeps_of d came s = record { shape_same = s.shape_same; opened_same = s.is.opened_same; later = s.is.later; capacity_same = s.is.capacity_same; held = s.is.held }
+    keeps_of : {Done : Type 0} (d : Deed Done) (came : Result Done LaneFault) → Stretch d (ledger_sight device before) (ledger_sight device now) came
+        → KeepsLedgerOf device before now
+    keeps_of d came s = record {
+      shape_same = s.shape_same;
+      opened_same = s.is.opened_same;
+      later = s.is.later;
+      capacity_same = s.is.capacity_same;
+      held = s.is.held;
+    }
 
     leaves_of : (came : Result RanAll LaneFault) → Stretch (run_deed verdicts files) (ledger_sight device before) (ledger_sight device now) came
         → LeavesAll (files_deed verdicts files) K E X (ledger_flights before) (ledger_flights now) failed
@@ -137,7 +155,8 @@ module _ (verdicts : VerdictsOf) (files : List (List FullTx)) where
       begun = λ limits. (let begun = s.is.begun limits in (inr (begun.0, begun.1), begun.2));
     }
 
-    pub run_worked : (ran : RanAll) (ws : Vec Wave) → ws.items ≡ ran.waves → Stretch (run_deed verdicts files) (ledger_sight device before) (ledger_sight device now) (Ok ran)
+    pub run_worked : (ran : RanAll) (ws : Vec Wave) → ws.items ≡ ran.waves
+        → Stretch (run_deed verdicts files) (ledger_sight device before) (ledger_sight device now) (Ok ran)
         → HasRunWork device (files_deed verdicts files) before now ran.resumed (Ok ws)
     run_worked ran ws same s =
         let did = s.is.did in
@@ -152,7 +171,10 @@ module _ (verdicts : VerdictsOf) (files : List (List FullTx)) where
             batches = did.back.told;
             well = record {
               idle = did.behind.idle;
-              did = λ mint submissions kept. (did.behind.waves mint submissions kept, subst (λ l. TellFiles K verdicts files did.middle X l) (sym same) (did.behind.told mint submissions kept));
+              did = λ mint submissions kept. (
+                did.behind.waves mint submissions kept,
+                subst (λ l. TellFiles K verdicts files did.middle X l) (sym same) (did.behind.told mint submissions kept),
+              );
             };
           };
           badly = tt;
@@ -175,7 +197,8 @@ module _ (verdicts : VerdictsOf) (files : List (List FullTx)) where
       },
     )
 
-    pub run_stopped : (resumed : List ResumedBatch) (e : LaneFault) → Stretch (run_deed verdicts files) (ledger_sight device before) (ledger_sight device now) (Err e)
+    pub run_stopped : (resumed : List ResumedBatch) (e : LaneFault)
+        → Stretch (run_deed verdicts files) (ledger_sight device before) (ledger_sight device now) (Err e)
         → HasRunWork device (files_deed verdicts files) before now resumed (Err e)
     run_stopped resumed e s = record {
       keeps_ledger = keeps_of (run_deed verdicts files) (Err e) s;

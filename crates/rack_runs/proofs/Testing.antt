@@ -45,9 +45,11 @@ module _ {D : Type 0} (device : Ghosts D) (e : AtEntry D) (middle : ℕ → Opti
       are_back : (now : ℕ → ℕ) → AreDisksBack device e.disks (record { held = back; faults = now })
       are_back now n = same_back device (e.disks.faults n) (now n) (e.disks.held n) (back n) (unchanged n)
 
-      refused : (test : Test) (answer : Answer) → test.refuses first.header.shape (ledger_journals first) answer → IsTestRefused device e.disks.held back test answer
+      refused : (test : Test) (answer : Answer) → test.refuses first.header.shape (ledger_journals first) answer
+          → IsTestRefused device e.disks.held back test answer
       refused test answer told =
-          let own : test.refuses e.header.shape (ledger_journals (entry_ledger e)) answer = subst (λ (x : LedgerOf D). test.refuses x.header.shape (ledger_journals x) answer) made told in
+          let own : test.refuses e.header.shape (ledger_journals (entry_ledger e)) answer =
+          subst (λ (x : LedgerOf D). test.refuses x.header.shape (ledger_journals x) answer) made told in
           record {
             ledger = record {
               shape = e.header.shape;
@@ -56,19 +58,24 @@ module _ {D : Type 0} (device : Ghosts D) (e : AtEntry D) (middle : ℕ → Opti
               history = told_history device e.disks.held e.header e.logs e.shards begun.nodes begun.caused.rows begun.caused.merged;
               caused = begun.caused.caused;
             };
-            refused = subst (λ J. test.refuses e.header.shape J answer) (λ i n. same_journals device e.disks.held e.header e.logs e.shards begun.nodes begun.caused n i) own;
+            refused = subst (λ J. test.refuses e.header.shape J answer)
+                (λ i n. same_journals device e.disks.held e.header e.logs e.shards begun.nodes begun.caused n i) own;
             unchanged = unchanged;
           }
 
       -- the test refused the ledger, or there was no memory for it
-      pub not_begun : {Done : Type 0} (d : Deed Done) (test : Test) (now : ℕ → ℕ) (answer : Answer) → (answer ≡ answers.Memory) ⊎ test.refuses first.header.shape (ledger_journals first) answer
+      pub not_begun : {Done : Type 0} (d : Deed Done) (test : Test) (now : ℕ → ℕ) (answer : Answer)
+          → (answer ≡ answers.Memory) ⊎ test.refuses first.header.shape (ledger_journals first) answer
           → WhyNotBegun device e.disks (record { held = back; faults = now }) d test answer
       not_begun d test now answer (inl memory) = inl (inl (inr (inr memory), are_back now))
       not_begun d test now answer (inr told) = inr (refused test answer told)
 
   -- what holds of the opened ledger holds of whatever kept ledger the rack showed
-  pub passed_shown : (P : Shape → (ℕ → List Record) → Type 0) → P e.header.shape (ledger_journals (entry_ledger e)) → OfShown device e.disks.held (λ K mint submissions E. P K E)
+  pub passed_shown : (P : Shape → (ℕ → List Record) → Type 0) → P e.header.shape (ledger_journals (entry_ledger e))
+      → OfShown device e.disks.held (λ K mint submissions E. P K E)
   passed_shown P told K mint submissions E within shows kept =
       let there : P K (node_journals K e.logs e.shards) =
-      subst (λ S. P S (node_journals S e.logs e.shards)) (same_shape device e.disks.held e.header e.logs e.shards begun.nodes K (genesis_id mint) E within shows) told in
-      subst (P K) (λ i n. shown_journals device e.disks.held e.header e.logs e.shards begun.nodes K (genesis_id mint) E within shows (beyond K mint submissions E kept) n i) there
+      subst (λ S. P S (node_journals S e.logs e.shards))
+      (same_shape device e.disks.held e.header e.logs e.shards begun.nodes K (genesis_id mint) E within shows) told in
+      subst (P K) (λ i n. shown_journals device e.disks.held e.header e.logs e.shards begun.nodes K (genesis_id mint) E within shows
+      (beyond K mint submissions E kept) n i) there

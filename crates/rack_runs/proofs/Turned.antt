@@ -15,7 +15,8 @@ use Rattle.command_answers.specs.Left.{IsBeforeDisks}
 use Rattle.command_answers.proofs.Refusals.{not_refused, refused_alone}
 
 -- where a lane met a fault, its nodes were taken
-not_by_lane : (K : Shape) (next : ℕ → List Compact → Type 0) (E X : ℕ → List Record) (failed : ℕ → Type 0) (holds : ℕ → ℕ → Type 0) (a : Answer) → IsLaneAnswer K next E X failed holds a → IsBeforeDisks a → ⊥
+not_by_lane : (K : Shape) (next : ℕ → List Compact → Type 0) (E X : ℕ → List Record) (failed : ℕ → Type 0) (holds : ℕ → ℕ → Type 0) (a : Answer)
+    → IsLaneAnswer K next E X failed holds a → IsBeforeDisks a → ⊥
 not_by_lane K next E X failed holds answers.Ok is before = is
 not_by_lane K next E X failed holds answers.BadWords is before = is
 not_by_lane K next E X failed holds (answers.BadInput file at kind) is before = is
@@ -33,7 +34,8 @@ not_by_lane K next E X failed holds (answers.DiskFault k) is before = before
 not_by_lane K next E X failed holds answers.Memory is before = before
 
 -- nor is all done where a lane met a fault
-lane_alone : (K : Shape) (next : ℕ → List Compact → Type 0) (E X : ℕ → List Record) (failed : ℕ → Type 0) (holds : ℕ → ℕ → Type 0) (a : Answer) → IsLaneAnswer K next E X failed holds a → IsWell a → ⊥
+lane_alone : (K : Shape) (next : ℕ → List Compact → Type 0) (E X : ℕ → List Record) (failed : ℕ → Type 0) (holds : ℕ → ℕ → Type 0) (a : Answer)
+    → IsLaneAnswer K next E X failed holds a → IsWell a → ⊥
 lane_alone K next E X failed holds answers.Ok is well = is
 lane_alone K next E X failed holds answers.WriteFault is well = is
 lane_alone K next E X failed holds other is well = well
@@ -47,16 +49,20 @@ module _ {D : Type 0} (device : Ghosts D) where
     not_turned is =
         ⊎_elim
         (λ unopened. ⊎_elim (λ closed. not_unopened before.held before.faults after.faults a closed)
-        (λ other. ⊎_elim (λ unsound. subst (λ b. IsBeforeDisks b → ⊥) (sym unsound.told) (λ none. none)) (λ memory. subst (λ b. IsBeforeDisks b → ⊥) (sym memory) (λ none. none)) other) unopened.0)
-        (λ lane. not_by_lane lane.ledger.shape (turns.next lane.ledger.shape (λ n. journal n (reverse lane.ledger.rows)) lane.exit) (λ n. journal n (reverse lane.ledger.rows)) lane.exit (RoseAt before after) (DiskMayHold device before) a lane.cause) is
+        (λ other. ⊎_elim (λ unsound. subst (λ b. IsBeforeDisks b → ⊥) (sym unsound.told) (λ none. none))
+        (λ memory. subst (λ b. IsBeforeDisks b → ⊥) (sym memory) (λ none. none)) other) unopened.0)
+        (λ lane. not_by_lane lane.ledger.shape (turns.next lane.ledger.shape (λ n. journal n (reverse lane.ledger.rows)) lane.exit)
+        (λ n. journal n (reverse lane.ledger.rows)) lane.exit (RoseAt before after) (DiskMayHold device before) a lane.cause) is
 
     -- where a run or a recovery did not come through, all was not done
     pub not_done : WhyNoTurns device before after turns a → IsWell a → ⊥
     not_done is =
         ⊎_elim
         (λ unopened. ⊎_elim (λ closed. refused_alone a (unopened_kind device before.held before.faults after.faults None a closed))
-        (λ other. ⊎_elim (λ unsound. subst (λ b. IsWell b → ⊥) (sym unsound.told) (λ none. none)) (λ memory. subst (λ b. IsWell b → ⊥) (sym memory) (λ none. none)) other) unopened.0)
-        (λ lane. lane_alone lane.ledger.shape (turns.next lane.ledger.shape (λ n. journal n (reverse lane.ledger.rows)) lane.exit) (λ n. journal n (reverse lane.ledger.rows)) lane.exit (RoseAt before after) (DiskMayHold device before) a lane.cause) is
+        (λ other. ⊎_elim (λ unsound. subst (λ b. IsWell b → ⊥) (sym unsound.told) (λ none. none))
+        (λ memory. subst (λ b. IsWell b → ⊥) (sym memory) (λ none. none)) other) unopened.0)
+        (λ lane. lane_alone lane.ledger.shape (turns.next lane.ledger.shape (λ n. journal n (reverse lane.ledger.rows)) lane.exit)
+        (λ n. journal n (reverse lane.ledger.rows)) lane.exit (RoseAt before after) (DiskMayHold device before) a lane.cause) is
 
     -- what it leaves
     pub turns_leave : WhyNoTurns device before after turns a → TurnsLeave device before after turns a

@@ -1,11 +1,14 @@
 -- Unspent hashes lie at their own shards, and are counted there.
-use Rattle.std.proofs.Common.{◌≡◌, ◌⊎◌, inl, inr, ℕ, suc, ◌+◌, ◌<◌, ◌≤◌, Bool, true, false, ◌&&◌, ◌||◌, ◌==◌, if◌then◌else◌, List, [], ◌∷◌, ◌++◌, length, Some, refl, sym, ap, ◌∙◌, subst, arith}
+use Rattle.std.proofs.Common.{◌≡◌, ◌⊎◌, inl, inr, ℕ, suc, ◌+◌, ◌<◌, ◌≤◌, Bool, true, false, ◌&&◌, ◌||◌, ◌==◌, if◌then◌else◌, List, [], ◌∷◌, ◌++◌}
+use Rattle.std.proofs.Common.{length, Some, refl, sym, ap, ◌∙◌, subst, arith}
 use Rattle.std.specs.Prelude.{All}
 use Rattle.std.proofs.lemmas.List.{length-append}
 use Rattle.std.proofs.lemmas.List.Elements.{All-nil, All-head, All-tail}
-use Rattle.cbdc_model.specs.Records.{Digest, same_digest, Shape, Header, Batch, Answered, Record, record_of, kind_of, is_of, is_held, entries_in, lock_of, Genesis, Lock, Finish}
+use Rattle.cbdc_model.specs.Records.{Digest, same_digest, Shape, Header, Batch, Answered, Record, record_of, kind_of, is_of, is_held, entries_in}
+use Rattle.cbdc_model.specs.Records.{lock_of, Genesis, Lock, Finish}
 use Rattle.cbdc_model.specs.Ranges.{shard_of, shard_node}
-use Rattle.cbdc_model.specs.Status.{Status, status, has, held_inputs, taken_inputs, made_outputs, returned_inputs, finished_status, Unspent, Locked, Absent}
+use Rattle.cbdc_model.specs.Status.{Status, status, has, held_inputs, taken_inputs, made_outputs, returned_inputs, finished_status, Unspent, Locked}
+use Rattle.cbdc_model.specs.Status.{Absent}
 use Rattle.cbdc_model.specs.Grammar.{AreHere, IsEntry, IsInGrammar}
 use Rattle.cbdc_model.specs.After.{IsJournal}
 use Rattle.cbdc_model.specs.World.{IsUnspent}
@@ -67,7 +70,8 @@ module _ (h : Header) where
   returned_here (a ∷ es) (d ∷ ds) x all i =
       let rest = returned_here es ds x (All-tail (IsEntry h.shape h.node) a es all) in
       let own : IsEntry h.shape h.node a = All-head (IsEntry h.shape h.node) a es all in
-      elim (is_held a.reply) as (λ b. has (if b then (if d then returned_inputs es ds else a.entry.inputs ++ returned_inputs es ds) else returned_inputs es ds) x ≡ true → Here x) [
+      elim (is_held a.reply) as (λ b. has (if b then (if d then returned_inputs es ds else a.entry.inputs ++ returned_inputs es ds)
+      else returned_inputs es ds) x ≡ true → Here x) [
         | true ↦ elim d as (λ b. has (if b then returned_inputs es ds else a.entry.inputs ++ returned_inputs es ds) x ≡ true → Here x) [
           | true ↦ λ t. rest t
           | false ↦ λ t. in_both a.entry.inputs (returned_inputs es ds) x (in_list a.entry.inputs x own.inputs_here) rest t
@@ -75,17 +79,21 @@ module _ (h : Header) where
         | false ↦ λ t. rest t
       ] i
 
-  finished_here : (es : List Answered) (ds : List Bool) (x : Digest) (before : Status) → Entries es → (before ≡ Unspent → Here x) → finished_status es ds x before ≡ Unspent → Here x
+  finished_here : (es : List Answered) (ds : List Bool) (x : Digest) (before : Status) → Entries es → (before ≡ Unspent → Here x)
+      → finished_status es ds x before ≡ Unspent → Here x
   finished_here es ds x before all old now = elim (has (made_outputs es ds) x) as (λ m. has (made_outputs es ds) x ≡ m
-      → (if m then Unspent else (if has (returned_inputs es ds) x then Unspent else (if has (taken_inputs es ds) x then Absent else before))) ≡ Unspent → Here x) [
+      → (if m then Unspent else (if has (returned_inputs es ds) x then Unspent else (if has (taken_inputs es ds) x then Absent else before)))
+      ≡ Unspent → Here x) [
         | true ↦ λ e _. made_here es ds x all e
-        | false ↦ λ _ t. elim (has (returned_inputs es ds) x) as (λ r. has (returned_inputs es ds) x ≡ r → (if r then Unspent else (if has (taken_inputs es ds) x then Absent else before)) ≡ Unspent → Here x) [
-          | true ↦ λ e _. returned_here es ds x all e
-          | false ↦ λ _ u. elim (has (taken_inputs es ds) x) as (λ k. (if k then Absent else before) ≡ Unspent → Here x) [
-            | true ↦ λ v. absurd (let z : Absent ≡ Unspent = v in cc)
-            | false ↦ λ v. old v
-          ] u
-        ] refl t
+        | false ↦ λ _ t. elim (has (returned_inputs es ds) x) as
+            (λ r. has (returned_inputs es ds) x ≡ r → (if r then Unspent else (if has (taken_inputs es ds) x then Absent else before)) ≡ Unspent
+            → Here x) [
+              | true ↦ λ e _. returned_here es ds x all e
+              | false ↦ λ _ u. elim (has (taken_inputs es ds) x) as (λ k. (if k then Absent else before) ≡ Unspent → Here x) [
+                | true ↦ λ v. absurd (let z : Absent ≡ Unspent = v in cc)
+                | false ↦ λ v. old v
+              ] u
+            ] refl t
       ] refl now
 
   entries_here : (r : Record) → IsInGrammar h r → Entries (entries_in (Some r))
@@ -180,7 +188,8 @@ module _ (K : Shape) (J : ℕ → List Record) where
       let g = gathered (suc from) Ls rest are.2 others in
       let its : (x : Digest) → has counts.hashes x ≡ true → status L x ≡ Unspent = λ x i. tells_unspent (status L x) (sym (counts.all x) ∙ i) in
       let at : (x : Digest) → has counts.hashes x ≡ true → shard_of K.shards x ≡ from = λ x i. are.1 x (its x i) in
-      let there : (x : Digest) → shard_of K.shards x ≡ from → J (shard_node K (shard_of K.shards x)) ≡ L = λ x s. ap (λ m. J (shard_node K m)) s ∙ are.0 in
+      let there : (x : Digest) → shard_of K.shards x ≡ from
+      → J (shard_node K (shard_of K.shards x)) ≡ L = λ x s. ap (λ m. J (shard_node K m)) s ∙ are.0 in
       record {
         hashes = counts.hashes ++ g.hashes;
         once = set_both counts.hashes g.hashes counts.once g.once (λ x i k. absurd (let a = at x i in let b = (g.only x k).1 in omega (arith, a, b)));
@@ -188,16 +197,17 @@ module _ (K : Shape) (J : ℕ → List Record) where
           | inl o ↦ let s = at x o in (ap (λ M. status M x) (there x s) ∙ its x o, omega (arith, s), omega (arith, s))
           | inr o ↦ let s = g.only x o in (s.0, omega (arith, s.1), omega (arith, s.2))
         ];
-        all = λ x u low high. has_append counts.hashes g.hashes x ∙ elim (shard_of K.shards x == from) as (λ t. (shard_of K.shards x == from) ≡ t → (has counts.hashes x || has g.hashes x) ≡ true) [
-          | true ↦ λ t.
-              let s : shard_of K.shards x ≡ from = grind (arith, t) in
-              let o : has counts.hashes x ≡ true = counts.all x ∙ ap says_unspent (ap (λ M. status M x) (sym (there x s)) ∙ u) in
-              grind (arith, o)
-          | false ↦ λ t.
-              let above : suc from ≤ shard_of K.shards x = grind (arith, t, low) in
-              let o : has g.hashes x ≡ true = g.all x u above (omega (arith, high)) in
-              grind (arith, o)
-        ] refl;
+        all = λ x u low high. has_append counts.hashes g.hashes x
+            ∙ elim (shard_of K.shards x == from) as (λ t. (shard_of K.shards x == from) ≡ t → (has counts.hashes x || has g.hashes x) ≡ true) [
+              | true ↦ λ t.
+                  let s : shard_of K.shards x ≡ from = grind (arith, t) in
+                  let o : has counts.hashes x ≡ true = counts.all x ∙ ap says_unspent (ap (λ M. status M x) (sym (there x s)) ∙ u) in
+                  grind (arith, o)
+              | false ↦ λ t.
+                  let above : suc from ≤ shard_of K.shards x = grind (arith, t, low) in
+                  let o : has g.hashes x ≡ true = g.all x u above (omega (arith, high)) in
+                  grind (arith, o)
+            ] refl;
         count = let c = counts.count in let d = g.count in let l = length-append counts.hashes g.hashes in omega (arith, e, c, d, l);
       }
 
@@ -207,14 +217,17 @@ pub count_more : (Ls : List (List Record)) (L : List Record) (n own : ℕ) → C
 count_more [] L n own e counts = (own, 0, counts, refl, omega (arith, e))
 count_more (M ∷ Ls) L n own (first, rest, its, others, e) counts = (first, rest + own, its, count_more Ls L rest own others counts, omega (arith, e))
 
-pub count_next : {D : Type 0} (xs : List (NodeOf D)) (i n own sum : ℕ) (x : NodeOf D) → i < length xs → x ≡ get_or xs i x → CountAll (map (λ s. s.journal) (take i xs)) n → CountsUnspent x.journal own → sum ≡ n + own
+pub count_next : {D : Type 0} (xs : List (NodeOf D)) (i n own sum : ℕ) (x : NodeOf D) → i < length xs → x ≡ get_or xs i x
+    → CountAll (map (λ s. s.journal) (take i xs)) n → CountsUnspent x.journal own → sum ≡ n + own
     → CountAll (map (λ s. s.journal) (take (i + 1) xs)) sum
 count_next xs i n own sum x low is before counts e =
     subst (λ m. CountAll (map (λ s. s.journal) (take (i + 1) xs)) m) (sym e)
-    (subst (λ l. CountAll l (n + own)) (sym (ap (map (λ s. s.journal)) (take_more xs i x low ∙ ap (λ y. take i xs ++ y ∷ []) (sym is)) ∙ map-append (λ s. s.journal) (take i xs) (x ∷ [])))
+    (subst (λ l. CountAll l (n + own)) (sym (ap (map (λ s. s.journal)) (take_more xs i x low ∙ ap (λ y. take i xs ++ y ∷ []) (sym is))
+    ∙ map-append (λ s. s.journal) (take i xs) (x ∷ [])))
     (count_more (map (λ s. s.journal) (take i xs)) x.journal n own before counts))
 
-pub count_whole : {D : Type 0} (xs : List (NodeOf D)) (i n : ℕ) → length xs ≤ i → CountAll (map (λ s. s.journal) (take i xs)) n → CountAll (map (λ s. s.journal) xs) n
+pub count_whole : {D : Type 0} (xs : List (NodeOf D)) (i n : ℕ) → length xs ≤ i → CountAll (map (λ s. s.journal) (take i xs)) n
+    → CountAll (map (λ s. s.journal) xs) n
 count_whole xs i n past counts = subst (λ l. CountAll (map (λ s. s.journal) l) n) (take_all i xs past) counts
 
 module _ {D : Type 0} (h : Header) (logs shards : List (NodeOf D)) (ledger : IsLedger h logs shards) where
@@ -224,12 +237,14 @@ module _ {D : Type 0} (h : Header) (logs shards : List (NodeOf D)) (ledger : IsL
   abbrev J : ℕ → List Record
   J = node_journals h.shape logs shards
 
-  its_own : (s : NodeOf D) (from : ℕ) → IsJournal s.header s.journal → s.header ≡ header_of h.shape h.genesis (shard_node h.shape from) → (x : Digest) → status s.journal x ≡ Unspent → shard_of K.shards x ≡ from
+  its_own : (s : NodeOf D) (from : ℕ) → IsJournal s.header s.journal → s.header ≡ header_of h.shape h.genesis (shard_node h.shape from)
+      → (x : Digest) → status s.journal x ≡ Unspent → shard_of K.shards x ≡ from
   its_own s from journal header x u =
       let at = subst (λ g. shard_node g.shape (shard_of g.shape.shards x) ≡ g.node) header (unspent_here s.header s.journal journal x u) in
       omega (arith, at)
 
-  are_shards : (from : ℕ) (rest : List (NodeOf D)) → from + length rest ≡ length shards → ((f : NodeOf D → Sight) (i : ℕ) → sight_at f shards (from + i) ≡ sight_at f rest i)
+  are_shards : (from : ℕ) (rest : List (NodeOf D)) → from + length rest ≡ length shards
+      → ((f : NodeOf D → Sight) (i : ℕ) → sight_at f shards (from + i) ≡ sight_at f rest i)
       → All (λ s. IsJournal s.header s.journal) rest → AreShards K J from (map (λ s. s.journal) rest)
   are_shards from [] long same all = tt
   are_shards from (s ∷ rest) long same all =
@@ -238,16 +253,21 @@ module _ {D : Type 0} (h : Header) (logs shards : List (NodeOf D)) (ledger : IsL
       ap (λ t. t.header) (sym (here sight)) ∙ ledger.shard_headers from (let k = ledger.shards_are in omega (arith, long, k)) in (
         seen_shard K (sight_at sight logs) (sight_at sight shards) from ∙ ap (λ t. t.seen) (here sight),
         its_own s from (All-head (λ t. IsJournal t.header t.journal) s rest all) header,
-        are_shards (suc from) rest (omega (arith, long)) (λ f i. ap (sight_at f shards) (omega arith) ∙ same f (suc i)) (All-tail (λ t. IsJournal t.header t.journal) s rest all),
+        are_shards (suc from) rest (omega (arith, long)) (λ f i. ap (sight_at f shards) (omega arith) ∙ same f (suc i))
+            (All-tail (λ t. IsJournal t.header t.journal) s rest all),
       )
 
   pub unspent_counted : (n : ℕ) → CountAll (map (λ s. s.journal) shards) n → IsUnspentCount K J n
   unspent_counted n counts =
-      let all = gathered K J 0 (map (λ s. s.journal) shards) n (are_shards 0 shards (omega arith) (λ f i. ap (sight_at f shards) (omega arith)) ledger.shard_journals) counts in
+      let all = gathered K J 0 (map (λ s. s.journal) shards) n
+      (are_shards 0 shards (omega arith) (λ f i. ap (sight_at f shards) (omega arith)) ledger.shard_journals) counts in
       let long : length (map (λ s. s.journal) shards) ≡ K.shards = length-map shards (λ s. s.journal) ∙ ledger.shards_are in
       record {
         hashes = all.hashes;
         once = all.once;
-        all = λ x. (λ i. (all.only x i).0, λ u. all.all x u (omega arith) (let lt = shard_of-lt K.shards x ledger.limits.some_shard in omega (arith, lt, long)));
+        all = λ x. (
+          λ i. (all.only x i).0,
+          λ u. all.all x u (omega arith) (let lt = shard_of-lt K.shards x ledger.limits.some_shard in omega (arith, lt, long)),
+        );
         count = all.count;
       }

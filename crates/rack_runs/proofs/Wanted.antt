@@ -1,5 +1,6 @@
 -- The record that a lane wants may come next behind a front of its node's journal, but for a stamp past its bound.
-use Rattle.std.proofs.Common.{◌≡◌, inl, inr, ℕ, zero, suc, ◌+◌, ◌-◌, ◌*◌, ◌^◌, ◌<◌, ◌≤◌, ◌==◌, ◌%◌, ◌/◌, if◌then◌else◌, Bool, true, false, List, [], ◌∷◌, ◌++◌, length, drop, Some, refl, sym, ap, ◌∙◌, subst, arith, length-take}
+use Rattle.std.proofs.Common.{◌≡◌, inl, inr, ℕ, zero, suc, ◌+◌, ◌-◌, ◌*◌, ◌^◌, ◌<◌, ◌≤◌, ◌==◌, ◌%◌, ◌/◌, if◌then◌else◌, Bool, true, false, List, []}
+use Rattle.std.proofs.Common.{◌∷◌, ◌++◌, length, drop, Some, refl, sym, ap, ◌∙◌, subst, arith, length-take}
 use Rattle.std.specs.Prelude.{All}
 use Rattle.std.specs.List.{filter}
 use Rattle.std.proofs.lemmas.Nat.{div_below}
@@ -8,7 +9,8 @@ use Rattle.std.proofs.lemmas.List.Elements.{All-nil, All-cons, All-head, All-tai
 use Rattle.outside.specs.declared.disk.Disk.{Ghosts}
 use Rattle.cbdc_types.specs.Limits.{IsWithinLimits}
 use Rattle.cbdc_types.specs.declared.calls.LockCall.{LockCall}
-use Rattle.cbdc_model.specs.Records.{Digest, Shape, Header, Batch, Compact, Record, journal, record_of, last_stamp, stamp_of, Genesis, Start, Prepare, Commit, Discard, Done}
+use Rattle.cbdc_model.specs.Records.{Digest, Shape, Header, Batch, Compact, Record, journal, record_of, last_stamp, stamp_of, Genesis, Start, Prepare}
+use Rattle.cbdc_model.specs.Records.{Commit, Discard, Done}
 use Rattle.cbdc_model.specs.Slots.{Phase, slot, Idle, InPrepare, InCommit, InDiscard}
 use Rattle.cbdc_model.specs.Ranges.{home_of, shard_node, part, node_count}
 use Rattle.cbdc_model.specs.Replies.{answered}
@@ -79,14 +81,19 @@ number_up lane stamp b p past own other =
       | false ↦ other
     ]
 
-number_next : (h : Header) (past : List Record) (r : Record) → (past ≡ [] → ⊥) → h.node < h.shape.coordinators → After h past r → ((lane : ℕ) → (slot past lane).number ≤ last_stamp past)
+number_next : (h : Header) (past : List Record) (r : Record) → (past ≡ [] → ⊥) → h.node < h.shape.coordinators → After h past r
+    → ((lane : ℕ) → (slot past lane).number ≤ last_stamp past)
     → (lane : ℕ) → (slot (r ∷ past) lane).number ≤ last_stamp (r ∷ past)
 number_next h past (Genesis header hs) some low a le lane = absurd (some a.1)
 number_next h past (Start header) some low a le lane = absurd (some a.1)
-number_next h past (Prepare stamp b txs) some low a le lane = number_up lane stamp b InPrepare past (omega (arith, a.1.0, a.1.3, le b.lane)) (omega (arith, a.1.0, le lane))
-number_next h past (Commit stamp b os) some low a le lane = number_up lane stamp b InCommit past (omega (arith, a.1.0, a.1.3, le b.lane)) (omega (arith, a.1.0, le lane))
-number_next h past (Discard stamp b) some low a le lane = number_up lane stamp b InDiscard past (omega (arith, a.1.0, a.1.3, le b.lane)) (omega (arith, a.1.0, le lane))
-number_next h past (Done stamp b) some low a le lane = number_up lane stamp b Idle past (omega (arith, a.1.0, a.1.3, le b.lane)) (omega (arith, a.1.0, le lane))
+number_next h past (Prepare stamp b txs) some low a le lane =
+    number_up lane stamp b InPrepare past (omega (arith, a.1.0, a.1.3, le b.lane)) (omega (arith, a.1.0, le lane))
+number_next h past (Commit stamp b os) some low a le lane =
+    number_up lane stamp b InCommit past (omega (arith, a.1.0, a.1.3, le b.lane)) (omega (arith, a.1.0, le lane))
+number_next h past (Discard stamp b) some low a le lane =
+    number_up lane stamp b InDiscard past (omega (arith, a.1.0, a.1.3, le b.lane)) (omega (arith, a.1.0, le lane))
+number_next h past (Done stamp b) some low a le lane =
+    number_up lane stamp b Idle past (omega (arith, a.1.0, a.1.3, le b.lane)) (omega (arith, a.1.0, le lane))
 number_next h past other some low a le lane = absurd (omega (arith, low, a.0.2.0))
 
 number_low : (h : Header) (J : List Record) → h.node < h.shape.coordinators → IsJournal h J → (lane : ℕ) → (slot J lane).number ≤ last_stamp J
@@ -97,7 +104,8 @@ number_low h (r ∷ []) low j lane = first r j.0
     first (Genesis header hs) is = omega arith
     first (Start header) is = omega arith
     first other is = absurd is
-number_low h (r ∷ (q ∷ past)) low j lane = number_next h (q ∷ past) r (λ none. absurd (let z : q ∷ past ≡ [] = none in cc)) low j.0 (λ l. number_low h (q ∷ past) low j.1 l) lane
+number_low h (r ∷ (q ∷ past)) low j lane = number_next h (q ∷ past) r (λ none. absurd (let z : q ∷ past ≡ [] = none in cc)) low j.0
+    (λ l. number_low h (q ∷ past) low j.1 l) lane
 
 -- ---- the pieces of files
 
@@ -116,13 +124,17 @@ share_short n lane k (t ∷ ts) all =
 sent_within : (K : Shape) (sound : FullTx → Bool) (file : List FullTx) (lane : ℕ) → All IsShort file → All IsCompact (sent_to K sound file lane)
 sent_within K sound file lane all =
     let own : List FullTx = share (K.coordinators * K.lanes) lane 0 file in
-    All-map IsCompact compact (filter sound own) (All-weaker IsShort (λ t. IsCompact (compact t)) (λ t s. compact_law t s.inputs s.outputs) (filter sound own)
+    All-map IsCompact compact (filter sound own) (All-weaker IsShort (λ t. IsCompact (compact t)) (λ t s. compact_law t s.inputs s.outputs)
+    (filter sound own)
     (All-filter sound IsShort own (share_short (K.coordinators * K.lanes) lane 0 file all)))
 
 cut_fits : (K : Shape) (txs : List Compact) (pieces : List (List Compact)) → All IsCompact txs → IsCut K.batch txs pieces → EachFits K pieces
 cut_fits K txs [] all cut = tt
 cut_fits K txs (p ∷ ps) all cut = (
-  ((omega (arith, cut.0), omega (arith, ap length cut.1, length-take K.batch txs)), subst (All IsCompact) (sym cut.1) (All-take IsCompact K.batch txs all)),
+  (
+    (omega (arith, cut.0), omega (arith, ap length cut.1, length-take K.batch txs)),
+    subst (All IsCompact) (sym cut.1) (All-take IsCompact K.batch txs all),
+  ),
   cut_fits K (drop K.batch txs) ps (All-drop IsCompact K.batch txs all) cut.2,
 )
 
@@ -130,18 +142,22 @@ both_fit : (K : Shape) (ps qs : List (List Compact)) → EachFits K ps → EachF
 both_fit K [] qs a b = b
 both_fit K (p ∷ ps) qs a b = (a.0, both_fit K ps qs a.1 b)
 
-pieces_fit : (K : Shape) (sound : FullTx → Bool) (lane : ℕ) (files : List (List FullTx)) (pieces : List (List Compact)) → All (λ txs. All IsShort txs) files → AreFilesPieces K sound lane files pieces → EachFits K pieces
+pieces_fit : (K : Shape) (sound : FullTx → Bool) (lane : ℕ) (files : List (List FullTx)) (pieces : List (List Compact))
+    → All (λ txs. All IsShort txs) files → AreFilesPieces K sound lane files pieces → EachFits K pieces
 pieces_fit K sound lane [] pieces all none = subst (EachFits K) (sym none) tt
 pieces_fit K sound lane (file ∷ files) pieces all (own, more, cut, rest, is) = subst (EachFits K) (sym is)
-    (both_fit K own more (cut_fits K (sent_to K sound file lane) own (sent_within K sound file lane (All-head (λ txs. All IsShort txs) file files all)) cut)
+    (both_fit K own more (cut_fits K (sent_to K sound file lane) own
+    (sent_within K sound file lane (All-head (λ txs. All IsShort txs) file files all)) cut)
     (pieces_fit K sound lane files more (All-tail (λ txs. All IsShort txs) file files all) rest))
 
-one_fits : (K : Shape) (done : List (List Compact)) (txs : List Compact) (more : List (List Compact)) → EachFits K (done ++ txs ∷ more) → FitsBatch K txs
+one_fits : (K : Shape) (done : List (List Compact)) (txs : List Compact) (more : List (List Compact)) → EachFits K (done ++ txs ∷ more)
+    → FitsBatch K txs
 one_fits K [] txs more each = each.0
 one_fits K (p ∷ done) txs more each = one_fits K done txs more each.1
 
 -- the next piece of what files send to a lane fits a batch
-pub piece_fits : (K : Shape) (verdicts : VerdictsOf) (files : List (List FullTx)) (E X : ℕ → List Record) (lane : ℕ) (txs : List Compact) → All (λ ts. All IsShort ts) files → IsFilesPiece K verdicts files E X lane txs → FitsBatch K txs
+pub piece_fits : (K : Shape) (verdicts : VerdictsOf) (files : List (List FullTx)) (E X : ℕ → List Record) (lane : ℕ) (txs : List Compact)
+    → All (λ ts. All IsShort ts) files → IsFilesPiece K verdicts files E X lane txs → FitsBatch K txs
 piece_fits K verdicts files E X lane txs short piece =
     let (pieces, are, next) = piece (sound_by verdicts) (is_sound_law verdicts) in
     one_fits K next.0 txs next.1 (subst (EachFits K) next.2 (pieces_fit K (sound_by verdicts) lane files pieces short are))
@@ -157,9 +173,11 @@ home_inside K lane lt = go K.lanes lt
 concerned_inside : (K : Shape) (txs : List Compact) (s : ℕ) → is_concerned K txs s ≡ true → s < K.shards
 concerned_inside K txs s h = grind (arith, h)
 
-pub wanted_inside : (K : Shape) (lane : ℕ) (next : List Compact → Type 0) (X : ℕ → List Record) (node : ℕ) (front : List Record) (r : Record) → IsLaneOf K lane → IsWanted K lane next X node front r → node < node_count K
+pub wanted_inside : (K : Shape) (lane : ℕ) (next : List Compact → Type 0) (X : ℕ → List Record) (node : ℕ) (front : List Record) (r : Record)
+    → IsLaneOf K lane → IsWanted K lane next X node front r → node < node_count K
 wanted_inside K lane next X node front r lt (wants_prepare txs due at idle e) = omega (arith, at, home_inside K lane lt)
-wanted_inside K lane next X node front r lt (wants_lock b t txs s is at concerned phase stands have behind e) = omega (arith, at, concerned_inside K txs s concerned)
+wanted_inside K lane next X node front r lt (wants_lock b t txs s is at concerned phase stands have behind e) =
+    omega (arith, at, concerned_inside K txs s concerned)
 
 -- ---- what is next
 
@@ -171,7 +189,8 @@ module _ (K : Shape) (m : Minted) (X : ℕ → List Record) (limits : IsWithinLi
   abbrev Next : ℕ → List Record → Record → Type 0
   Next node front r = IsNextBut K m.id node front r
 
-  prepare_next : (lane : ℕ) (txs : List Compact) (front : List Record) → IsLaneOf K lane → home_of K lane < K.coordinators → FitsBatch K txs → IsJournal (header_of K m.id (home_of K lane)) front
+  prepare_next : (lane : ℕ) (txs : List Compact) (front : List Record) → IsLaneOf K lane → home_of K lane < K.coordinators → FitsBatch K txs
+      → IsJournal (header_of K m.id (home_of K lane)) front
       → (slot front lane).phase ≡ Idle → Next (home_of K lane) front (prepare_record front lane txs)
   prepare_next lane txs front lt home fits j idle =
       let le : (slot front lane).number ≤ last_stamp front = number_low (header_of K m.id (home_of K lane)) front home j lane in
@@ -180,7 +199,8 @@ module _ (K : Shape) (m : Minted) (X : ℕ → List Record) (limits : IsWithinLi
         λ early. (((omega arith, early), (lt, omega arith, omega (arith, le, early)), home, fits.0, fits.1), follows),
       )
 
-  module _ (b : Batch) (t : ℕ) (txs : List Compact) (s : ℕ) (asks : is_concerned K txs s ≡ true) (stands : record_of 6 (X (home_of K b.lane)) b ≡ Some (Prepare t b txs)) where
+  module _ (b : Batch) (t : ℕ) (txs : List Compact) (s : ℕ) (asks : is_concerned K txs s ≡ true)
+      (stands : record_of 6 (X (home_of K b.lane)) b ≡ Some (Prepare t b txs)) where
     abbrev c : LockCall
     c = record { batch = b; part = part K.shards s 0 txs; cause = t }
 
@@ -212,7 +232,8 @@ module _ (K : Shape) (m : Minted) (X : ℕ → List Record) (limits : IsWithinLi
         let fit = part_fits h txs s grammar.3.1 grammar.4 refl (concerned K txs s asks).1 in
         record { batch = grammar.1; cause = omega (arith, grammar.0.1); size = fit.size; places = fit.places; entries = fit.entries }
 
-    lock_next : (front : List Record) → IsJournal h front → slot front b.lane ≡ slot (X (shard_node K s)) b.lane → (slot (X (shard_node K s)) b.lane).number < b.number
+    lock_next : (front : List Record) → IsJournal h front → slot front b.lane ≡ slot (X (shard_node K s)) b.lane
+        → (slot (X (shard_node K s)) b.lane).number < b.number
         → Next (shard_node K s) front (lock_record front c)
     lock_next front j still behind =
         let idle : (slot front b.lane).phase ≡ Idle = ap (λ q. q.phase) still ∙ shard_idle behind in
@@ -221,7 +242,8 @@ module _ (K : Shape) (m : Minted) (X : ℕ → List Record) (limits : IsWithinLi
           λ early. lock_after h front c j (omega arith, omega (arith, low)) call idle number early,
         )
 
-  pub wanted_next : (lane node : ℕ) (next : List Compact → Type 0) (front : List Record) (r : Record) → IsLaneOf K lane → home_of K lane < K.coordinators → ((txs : List Compact) → next txs → FitsBatch K txs)
+  pub wanted_next : (lane node : ℕ) (next : List Compact → Type 0) (front : List Record) (r : Record) → IsLaneOf K lane
+      → home_of K lane < K.coordinators → ((txs : List Compact) → next txs → FitsBatch K txs)
       → IsJournal (header_of K m.id node) front → slot front lane ≡ slot (X node) lane → IsWanted K lane next X node front r → Next node front r
   wanted_next lane node next front r lt home fits j still (wants_prepare txs is at idle e) =
       subst (λ n. Next n front r) (sym at) (subst (Next (home_of K lane) front) (sym e)
@@ -229,7 +251,8 @@ module _ (K : Shape) (m : Minted) (X : ℕ → List Record) (limits : IsWithinLi
       (ap (λ q. q.phase) (subst (λ n. slot front lane ≡ slot (X n) lane) at still) ∙ idle)))
   wanted_next lane node next front r lt home fits j still (wants_lock b t txs s is at asks phase stands have behind e) =
       subst (λ n. Next n front r) (sym at) (subst (Next (shard_node K s) front) (sym e)
-      (lock_next b t txs s asks (subst (λ l. record_of 6 (X (home_of K l)) b ≡ Some (Prepare t b txs)) (sym is) stands) front (subst (λ n. IsJournal (header_of K m.id n) front) at j)
+      (lock_next b t txs s asks (subst (λ l. record_of 6 (X (home_of K l)) b ≡ Some (Prepare t b txs)) (sym is) stands) front
+      (subst (λ n. IsJournal (header_of K m.id n) front) at j)
       (subst (λ l. slot front l ≡ slot (X (shard_node K s)) l) (sym is) (subst (λ n. slot front lane ≡ slot (X n) lane) at still))
       (subst (λ l. (slot (X (shard_node K s)) l).number < b.number) (sym is) (subst (λ n. (slot (X n) lane).number < b.number) at behind))))
 
@@ -238,11 +261,14 @@ pub same_genesis : (K : Shape) (genesis : Digest) (m : Minted) (E X : ℕ → Li
     → IsJournal (header_of K genesis node) (E node) → (h : Header) → IsJournal h (X node) → IsEnd (E node) (X node) → m.id ≡ genesis
 same_genesis K genesis m E X node inside checked e h x since =
     let own : IsJournal (header_of K m.id node) (X node) = subst (λ k. IsJournal k (X node)) (header_is K m X node h checked inside x) x in
-    let entry : IsJournal (header_of K m.id node) (E node) = journal_end (header_of K m.id node) since.0 (E node) (some_there (header_of K genesis node) (E node) e) (subst (IsJournal (header_of K m.id node)) since.1 own) in
+    let entry : IsJournal (header_of K m.id node) (E node) =
+    journal_end (header_of K m.id node) since.0 (E node) (some_there (header_of K genesis node) (E node) e)
+    (subst (IsJournal (header_of K m.id node)) since.1 own) in
     ap (λ k. k.genesis) (one_header (header_of K m.id node) (header_of K genesis node) (E node) entry e)
 
 -- in a ledger whose journals have its headers at entry, and are checked at exit
-pub wants_next : (K : Shape) (genesis : Digest) (m : Minted) (next : ℕ → List Compact → Type 0) (E X : ℕ → List Record) → IsWithinLimits K → CheckedJournals K m X
+pub wants_next : (K : Shape) (genesis : Digest) (m : Minted) (next : ℕ → List Compact → Type 0) (E X : ℕ → List Record) → IsWithinLimits K
+    → CheckedJournals K m X
     → ((n : ℕ) → n < node_count K → IsJournal (header_of K genesis n) (E n)) → ((n : ℕ) → n < node_count K → (h : Header) × IsJournal h (X n))
     → ((lane : ℕ) (txs : List Compact) → next lane txs → FitsBatch K txs) → MayComeNext K genesis next E X
 wants_next K genesis m next E X limits checked were are fits lane node front r lt since within still wanted =
@@ -252,15 +278,18 @@ wants_next K genesis m next E X limits checked were are fits lane node front r l
     let e : IsJournal (header_of K genesis node) (E node) = were node inside in
     let some : E node ≡ [] → ⊥ = some_there (header_of K genesis node) (E node) e in
     let here : IsJournal (header_of K m.id node) front =
-    journal_end (header_of K m.id node) within.0 front (λ none. some_behind since.0 (E node) some (sym since.1 ∙ none)) (subst (IsJournal (header_of K m.id node)) within.1 own) in
+    journal_end (header_of K m.id node) within.0 front (λ none. some_behind since.0 (E node) some (sym since.1 ∙ none))
+    (subst (IsJournal (header_of K m.id node)) within.1 own) in
     let same : m.id ≡ genesis = same_genesis K genesis m E X node inside checked e x.0 x.1 (end_trans (E node) front (X node) since within) in
-    subst (λ g. IsNextBut K g node front r) same (wanted_next K m X limits checked lane node (next lane) front r lt (home_inside K lane lt) (fits lane) here still wanted)
+    subst (λ g. IsNextBut K g node front r) same (wanted_next K m X limits checked lane node (next lane) front r lt (home_inside K lane lt)
+    (fits lane) here still wanted)
 
 -- ---- at open nodes
 
 module _ {D : Type 0} (device : Ghosts D) where
   -- each node's journal has its header of the ledger
-  node_header : (h : Header) (logs shards : List (NodeOf D)) → IsLedger h logs shards → (n : ℕ) → n < node_count h.shape → IsJournal (header_of h.shape h.genesis n) (node_journals h.shape logs shards n)
+  node_header : (h : Header) (logs shards : List (NodeOf D)) → IsLedger h logs shards → (n : ℕ) → n < node_count h.shape
+      → IsJournal (header_of h.shape h.genesis n) (node_journals h.shape logs shards n)
   node_header h logs shards is n inside = elim (cases_lt n h.shape.coordinators) [
     | inl low ↦
         let l = at_place logs n (omega (arith, low, is.coordinators)) in
@@ -272,28 +301,35 @@ module _ {D : Type 0} (device : Ghosts D) where
         let lt : s < h.shape.shards = omega (arith, high, inside) in
         let place : h.shape.coordinators + s ≡ n = omega (arith, high) in
         let x = at_place shards s (omega (arith, lt, is.shards_are)) in
-        let head : x.0.header ≡ header_of h.shape h.genesis (h.shape.coordinators + s) = sym (ap (λ t. t.header) (sight_there sight shards s x.0 x.1)) ∙ is.shard_headers s lt in
+        let head : x.0.header ≡ header_of h.shape h.genesis (h.shape.coordinators + s) =
+        sym (ap (λ t. t.header) (sight_there sight shards s x.0 x.1)) ∙ is.shard_headers s lt in
         subst (λ k. IsJournal (header_of h.shape h.genesis k) (node_journals h.shape logs shards k)) place
         (subst (λ J. IsJournal (header_of h.shape h.genesis (h.shape.coordinators + s)) J) (sym (shard_journal h.shape logs shards s x.0 x.1))
         (subst (λ k. IsJournal k x.0.journal) head (by_all (λ y. IsJournal y.header y.journal) shards is.shard_journals s x.0 x.1)))
   ]
 
-  pub wants_there : (h g : Header) (logs now : List (NodeOf D)) (shards after : List (NodeOf D)) → IsLedger h logs shards → IsLedger g now after → g.shape ≡ h.shape → HaveCheckedJournals h.shape now after
+  pub wants_there : (h g : Header) (logs now : List (NodeOf D)) (shards after : List (NodeOf D)) → IsLedger h logs shards → IsLedger g now after
+      → g.shape ≡ h.shape → HaveCheckedJournals h.shape now after
       → (next : ℕ → List Compact → Type 0) → ((lane : ℕ) (txs : List Compact) → next lane txs → FitsBatch h.shape txs)
       → MayComeNext h.shape h.genesis next (node_journals h.shape logs shards) (node_journals h.shape now after)
   wants_there h g logs now shards after was is shape checked next fits =
       wants_next h.shape h.genesis checked.0 next (node_journals h.shape logs shards)
       (node_journals h.shape now after) was.limits checked.1 (node_header h logs shards was)
-      (λ n inside. subst (λ k. n < node_count k → (j : Header) × IsJournal j (node_journals k now after n)) shape (λ i. (header_of g.shape g.genesis n, node_header g now after is n i)) inside)
+      (λ n inside. subst (λ k. n < node_count k → (j : Header) × IsJournal j (node_journals k now after n)) shape
+      (λ i. (header_of g.shape g.genesis n, node_header g now after is n i)) inside)
       fits
 
   -- journals at exit are those of a ledger with this genesis, each record of which is caused
-  pub stays_caused : (h g : Header) (logs now : List (NodeOf D)) (shards after : List (NodeOf D)) → IsLedger h logs shards → IsLedger g now after → g.shape ≡ h.shape → HaveCheckedJournals h.shape now after
-      → ((n : ℕ) → IsEnd (node_journals h.shape logs shards n) (node_journals h.shape now after n)) → StaysCaused h.shape h.genesis (node_journals h.shape now after)
+  pub stays_caused : (h g : Header) (logs now : List (NodeOf D)) (shards after : List (NodeOf D)) → IsLedger h logs shards → IsLedger g now after
+      → g.shape ≡ h.shape → HaveCheckedJournals h.shape now after
+      → ((n : ℕ) → IsEnd (node_journals h.shape logs shards n) (node_journals h.shape now after n))
+      → StaysCaused h.shape h.genesis (node_journals h.shape now after)
   stays_caused h g logs now shards after was is shape checked grows =
       let first : 0 < node_count h.shape = omega (arith, was.limits.some_shard) in (
         checked.0,
-        same_genesis h.shape h.genesis checked.0 (node_journals h.shape logs shards) (node_journals h.shape now after) 0 first checked.1 (node_header h logs shards was 0 first)
-            (header_of g.shape g.genesis 0) (subst (λ k. IsJournal (header_of g.shape g.genesis 0) (node_journals k now after 0)) shape (node_header g now after is 0 (subst (λ k. 0 < node_count k) (sym shape) first))) (grows 0),
+        same_genesis h.shape h.genesis checked.0 (node_journals h.shape logs shards) (node_journals h.shape now after) 0 first checked.1
+            (node_header h logs shards was 0 first)
+            (header_of g.shape g.genesis 0) (subst (λ k. IsJournal (header_of g.shape g.genesis 0) (node_journals k now after 0)) shape
+            (node_header g now after is 0 (subst (λ k. 0 < node_count k) (sym shape) first))) (grows 0),
         checked.1,
       )

@@ -22,7 +22,8 @@ use Rattle.file_runs.proofs.Filing.{kept_more}
 use Rattle.file_runs.proofs.Flying.{may_more}
 use Rattle.file_runs.proofs.Whole.{when_whole, of_whole, of_fault}
 use Rattle.rack_runs.specs.Resuming.{HasResumed}
-use Rattle.rack_runs.specs.Works.{Deed, IsBehind, IsOpenOnly, LeavesWork, WorkEndsWell, EndsBadly, HasWorked, LeavesAll, AllWell, AllBadly, HasRunWork}
+use Rattle.rack_runs.specs.Works.{Deed, IsBehind, IsOpenOnly, LeavesWork, WorkEndsWell, EndsBadly, HasWorked, LeavesAll, AllWell, AllBadly}
+use Rattle.rack_runs.specs.Works.{HasRunWork}
 use Rattle.rack_runs.proofs.Lent.{on_ok_by, if_ok_by, if_err_by}
 use Rattle.rack_runs.proofs.Resting.{rest_all, rests_behind}
 
@@ -38,7 +39,8 @@ only_open K E M limits same keeps = record {
 
 module _ {Done : Type 0} (d : Deed Done) (K : Shape) (E M X : ℕ → List Record) (failed : ℕ → Type 0) (behind : IsBehind K E M) where
   -- what a work leaves it leaves of the journals at entry
-  leaves_on : (F G L : ℕ → Option Record) → TakesInOrder K E M → OfKept K E (FliesOn K E M F G) → Launches K (λ _. Nothing) E M F G → LeavesWork d K M X G L failed → LeavesAll d K E X F L failed
+  leaves_on : (F G L : ℕ → Option Record) → TakesInOrder K E M → OfKept K E (FliesOn K E M F G) → Launches K (λ _. Nothing) E M F G
+      → LeavesWork d K M X G L failed → LeavesAll d K E X F L failed
   leaves_on F G L order flies launches w = record {
     grows = λ n. end_trans (E n) (M n) (X n) (behind.grows n) (w.grows n);
     keeps = λ mint submissions kept.
@@ -46,28 +48,40 @@ module _ {Done : Type 0} (d : Deed Done) (K : Shape) (E M X : ℕ → List Recor
         let b = w.keeps mint submissions a.kept in
         record { grows = λ n. end_trans (E n) (M n) (X n) (a.grows n) (b.grows n); kept = b.kept };
     flies = λ mint submissions kept may. w.flies mint submissions (behind.keeps mint submissions kept).kept (flies mint submissions kept may);
-    launches = launches_on K (λ _. Nothing) (d.next K M X) (d.next K E X) E M X F G L (λ lane txs inside still none. absurd none) (λ lane txs inside is. w.since E behind lane txs inside is) launches w.launches;
+    launches = launches_on K (λ _. Nothing) (d.next K M X) (d.next K E X) E M X F G L (λ lane txs inside still none. absurd none)
+        (λ lane txs inside is. w.since E behind lane txs inside is) launches w.launches;
     begun = λ limits. (inr (w.begun limits E behind), (M, order, inr (behind.idle, w.grows)));
   }
 
   -- and its fault is one of all
-  badly_on : (opens counts holds : ℕ → ℕ) (e : LaneFault) → ((lane : ℕ) (txs : List Compact) → IsLaneOf K lane → d.next K M X lane txs → d.next K E X lane txs)
-      → LanesRest K X (HaveFailed opens counts) → EndsBadly d K M X (HaveFailed opens counts) (MayHoldBytes holds) e → AllBadly d K E X (HaveFailed opens counts) (MayHoldBytes holds) e
+  badly_on : (opens counts holds : ℕ → ℕ) (e : LaneFault)
+      → ((lane : ℕ) (txs : List Compact) → IsLaneOf K lane → d.next K M X lane txs → d.next K E X lane txs)
+      → LanesRest K X (HaveFailed opens counts) → EndsBadly d K M X (HaveFailed opens counts) (MayHoldBytes holds) e
+      → AllBadly d K E X (HaveFailed opens counts) (MayHoldBytes holds) e
   badly_on opens counts holds e since rests b = record {
     rests = rest_all K E X (HaveFailed opens counts) (e.fault ≡ NoMemory) rests;
-    cause = run_moves K (d.next K M X) (d.next K E X) M E X (HaveFailed opens counts) (HaveFailed opens counts) (MayHoldBytes holds) (MayHoldBytes holds) behind.grows since (λ n did. did) (λ n c may. may) e b.cause;
+    cause = run_moves K (d.next K M X) (d.next K E X) M E X (HaveFailed opens counts) (HaveFailed opens counts) (MayHoldBytes holds)
+        (MayHoldBytes holds) behind.grows since (λ n did. did) (λ n c may. may) e b.cause;
     ends = inr (
       M,
       behind.grows,
       behind.unprepared,
       behind.idle,
-      record { opened_at = opens; faults_at = counts; capacity_at = holds; fails = λ n inside did. did; holds = λ n c inside may. may; ends = b.ends },
+      record {
+        opened_at = opens;
+        faults_at = counts;
+        capacity_at = holds;
+        fails = λ n inside did. did;
+        holds = λ n c inside may. may;
+        ends = b.ends;
+      },
     );
   }
 
 module _ {D Done : Type 0} (device : Ghosts D) (d : Deed Done) where
   -- a lane met a fault as open batches were brought to their end: no work was begun
-  pub stopped_run : (before now : LedgerOf D) (resumed : List ResumedBatch) (came : Result (Vec ResumedBatch) LaneFault) (e : LaneFault) → came ≡ Err e
+  pub stopped_run : (before now : LedgerOf D) (resumed : List ResumedBatch) (came : Result (Vec ResumedBatch) LaneFault) (e : LaneFault)
+      → came ≡ Err e
       → HasResumed device before now came → HasRunWork device d before now resumed (Err e)
   stopped_run before now resumed came e is r =
       let K : Shape = before.header.shape in
@@ -92,7 +106,8 @@ module _ {D Done : Type 0} (device : Ghosts D) (d : Deed Done) where
         };
         well = tt;
         badly = record {
-          cause = run_moves K (λ _. Nothing) (d.next K E M) E E M failed failed holds holds (λ n. end_self (E n)) (λ lane txs inside none. absurd none) (λ n did. did) (λ n c may. may) e
+          cause = run_moves K (λ _. Nothing) (d.next K E M) E E M failed failed holds holds (λ n. end_self (E n))
+              (λ lane txs inside none. absurd none) (λ n did. did) (λ n c may. may) e
               (of_fault _ came e is r.fault);
           ends = inl (r.prepares, of_fault _ came e is r.least);
           rests = rests_behind K E M failed holds e (of_fault _ came e is r.least) (of_fault _ came e is r.rests);
@@ -100,7 +115,8 @@ module _ {D Done : Type 0} (device : Ghosts D) (d : Deed Done) where
       }
 
   -- open batches are at their end, and the work was done behind that
-  pub worked_run : (before middle now : LedgerOf D) (rs : Vec ResumedBatch) (came : Result (Vec ResumedBatch) LaneFault) (did : Result Done LaneFault) → came ≡ Ok rs
+  pub worked_run : (before middle now : LedgerOf D) (rs : Vec ResumedBatch) (came : Result (Vec ResumedBatch) LaneFault)
+      (did : Result Done LaneFault) → came ≡ Ok rs
       → HasResumed device before middle came → HasWorked device d middle now did
       → HasRunWork device d before now rs.items did
   worked_run before middle now rs came did is r w =
@@ -129,7 +145,14 @@ module _ {D Done : Type 0} (device : Ghosts D) (d : Deed Done) where
         quiet = on_ok_by did (λ q was. q (when_whole came rs is r.quiet was)) w.quiet;
         leaves = leaves_on d K E M X (HaveFailed opens counts) behind F G L r.order r.flies r.launches leaves;
         well = if_ok_by (WorkEndsWell d middle.header.shape M X) (AllWell d K E X rs.items) did w.well
-            (λ a ends. record { middle = M; behind = behind; batches = of_whole _ came rs is r.told; well = subst (λ k. WorkEndsWell d k M X a) same ends });
-        badly = if_err_by (EndsBadly d middle.header.shape M X (HaveFailed opens counts) (MayHoldBytes holds)) (AllBadly d K E X (HaveFailed opens counts) (MayHoldBytes holds)) did
-            (λ e ends. badly_on d K E M X (HaveFailed opens counts) behind opens counts holds e (leaves.since E behind) leaves.rests (subst (λ k. EndsBadly d k M X (HaveFailed opens counts) (MayHoldBytes holds) e) same ends)) w.badly;
+            (λ a ends. record {
+              middle = M;
+              behind = behind;
+              batches = of_whole _ came rs is r.told;
+              well = subst (λ k. WorkEndsWell d k M X a) same ends;
+            });
+        badly = if_err_by (EndsBadly d middle.header.shape M X (HaveFailed opens counts) (MayHoldBytes holds))
+            (AllBadly d K E X (HaveFailed opens counts) (MayHoldBytes holds)) did
+            (λ e ends. badly_on d K E M X (HaveFailed opens counts) behind opens counts holds e (leaves.since E behind) leaves.rests
+            (subst (λ k. EndsBadly d k M X (HaveFailed opens counts) (MayHoldBytes holds) e) same ends)) w.badly;
       }

@@ -16,7 +16,8 @@ use Rattle.rack_runs.specs.Works.{Deed, IsOpenOnly}
 -- files were run from journals M to X: their waves stand behind whatever resuming M led to, and each wave tells the results of its submissions
 abbrev pub RanFiles : VerdictsOf → List (List FullTx) → Shape → (ℕ → List Record) → (ℕ → List Record) → List Wave → Type 0
 RanFiles verdicts files K M X waves =
-    ((sound : FullTx → Bool) (E : ℕ → List Record) → TellsSound verdicts sound → IsResumed K E M → Waves K sound files E X) × TellFiles K verdicts files M X waves
+    ((sound : FullTx → Bool) (E : ℕ → List Record) → TellsSound verdicts sound → IsResumed K E M → Waves K sound files E X)
+    × TellFiles K verdicts files M X waves
 
 -- client files, one after another
 abbrev pub files_deed : VerdictsOf → List (List FullTx) → Deed (Vec Wave)
@@ -24,7 +25,8 @@ files_deed verdicts files = record {
   handed = files;
   next = PieceNext verdicts files;
   ends = λ K M X failed may_hold e. EndsFiles K verdicts files M X failed may_hold e;
-  begun = λ K E X. HaveBegunFiles K verdicts files E X × OfKept K E (λ _ _. (sound : FullTx → Bool) → TellsSound verdicts sound → IsCutWaves K sound files E X);
+  begun = λ K E X. HaveBegunFiles K verdicts files E X
+      × OfKept K E (λ _ _. (sound : FullTx → Bool) → TellsSound verdicts sound → IsCutWaves K sound files E X);
   did = λ K M X waves. OfKept K M (λ _ _. RanFiles verdicts files K M X waves.items);
 }
 

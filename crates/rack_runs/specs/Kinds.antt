@@ -12,7 +12,8 @@ use Rattle.run_laws.specs.Checked.{CheckedJournals}
 use Rattle.node_journal.specs.Nodes.{NodeOf}
 use Rattle.lane_driver.specs.declared.fault.LaneFault.{LaneFault}
 use Rattle.lane_driver.specs.declared.fault.LaneFaultKind.{LaneFaultKind}
-use Rattle.lane_driver.specs.declared.fault.LaneFaultKind.TheVariants.{DiskFault as DiskStopped, Full as NoRoom, ClockEnd as NoStamp, Memory as NoMemory}
+use Rattle.lane_driver.specs.declared.fault.LaneFaultKind.TheVariants.{DiskFault as DiskStopped, Full as NoRoom, ClockEnd as NoStamp}
+use Rattle.lane_driver.specs.declared.fault.LaneFaultKind.TheVariants.{Memory as NoMemory}
 use Rattle.ledger_runs.specs.Turning.{IsLaneOf}
 use Rattle.ledger_runs.specs.Faults.{IsWanted, HasNoDiskFor, HasNoRoomFor, HasNoStampFor}
 
@@ -29,9 +30,11 @@ answer_to e = answer_at e.node e.fault
 
 -- the cause of an answer to a lane's fault, from journals E to X, by the nodes whose disks have failed and what disks may hold: a node that a lane
 -- asks has a disk that failed, or no room or no stamp for what a lane wants; or memory ran out
-abbrev pub IsLaneAnswer : Shape → (ℕ → List Compact → Type 0) → (ℕ → List Record) → (ℕ → List Record) → (ℕ → Type 0) → (ℕ → ℕ → Type 0) → Answer → Type 0
+abbrev pub IsLaneAnswer : Shape → (ℕ → List Compact → Type 0) → (ℕ → List Record) → (ℕ → List Record) → (ℕ → Type 0) → (ℕ → ℕ → Type 0) → Answer
+    → Type 0
 IsLaneAnswer K next E X failed may_hold (answers.DiskFault node) = (lane : ℕ) × IsLaneOf K lane × HasNoDiskFor K lane (next lane) X failed node
-IsLaneAnswer K next E X failed may_hold (answers.Full node used need capacity) = (lane : ℕ) × IsLaneOf K lane × HasNoRoomFor K lane (next lane) E X may_hold node used need capacity
+IsLaneAnswer K next E X failed may_hold (answers.Full node used need capacity) = (lane : ℕ) × IsLaneOf K lane
+    × HasNoRoomFor K lane (next lane) E X may_hold node used need capacity
 IsLaneAnswer K next E X failed may_hold (answers.ClockEnd node stamp) = (lane : ℕ) × IsLaneOf K lane × HasNoStampFor K lane (next lane) E X node stamp
 IsLaneAnswer K next E X failed may_hold answers.Memory = Unit {0}
 IsLaneAnswer K next E X failed may_hold other = ⊥
@@ -40,8 +43,10 @@ IsLaneAnswer K next E X failed may_hold other = ⊥
 -- nothing of the lane came: it is in the grammar of its node and follows the rules; of a record whose stamp is past the last one the rules hold,
 -- but for its stamp
 abbrev pub MayComeNext : Shape → Digest → (ℕ → List Compact → Type 0) → (ℕ → List Record) → (ℕ → List Record) → Type 0
-MayComeNext K genesis next E X = (lane node : ℕ) (front : List Record) (wanted : Record) → IsLaneOf K lane → IsEnd (E node) front → IsEnd front (X node) → slot front lane ≡ slot (X node) lane
-    → IsWanted K lane (next lane) X node front wanted → Follows (header_of K genesis node) front wanted × (stamp_of wanted ≤ 2 ^ 62 → After (header_of K genesis node) front wanted)
+MayComeNext K genesis next E X = (lane node : ℕ) (front : List Record) (wanted : Record) → IsLaneOf K lane → IsEnd (E node) front
+    → IsEnd front (X node) → slot front lane ≡ slot (X node) lane
+    → IsWanted K lane (next lane) X node front wanted
+    → Follows (header_of K genesis node) front wanted × (stamp_of wanted ≤ 2 ^ 62 → After (header_of K genesis node) front wanted)
 
 -- a record is in flight at a node only where its disk has failed since it was opened
 abbrev pub FliesBroken : {D : Type 0} → NodeOf D → Type 0

@@ -68,11 +68,13 @@ pub record IsRecovery {D : Type 0} (device : Ghosts D) (held : ℕ → Option D)
 -- and for what is kept for the batches that are open there
 abbrev pub SurvivesCrashes : {D : Type 0} → Ghosts D → (ℕ → Option D) → Shape → List Output → List FullTx → (ℕ → List Record) → Type 0
 SurvivesCrashes device held K mint submissions E =
-    (contents : ℕ → List ℕ) → AreImagesLeft device held K contents → (X : ℕ → List Record) × OpenTo held K contents X × IsGrown K mint submissions E X × AllHaveRoom device held K X
+    (contents : ℕ → List ℕ) → AreImagesLeft device held K contents
+    → (X : ℕ → List Record) × OpenTo held K contents X × IsGrown K mint submissions E X × AllHaveRoom device held K X
 
 -- a run that a lane's fault cut short: each disk keeps its journal at exit, with one record more or without, and has room for it and for what is kept
 -- for the batches that are open there; and whatever a crash leaves of the disks is kept
-pub record IsCutShort {D : Type 0} (device : Ghosts D) (held : ℕ → Option D) (files : List (List FullTx)) (exit : ℕ → List Record) (K : Shape) (mint : List Output) (submissions : List FullTx) (E : ℕ → List Record) : Type 0 where
+pub record IsCutShort {D : Type 0} (device : Ghosts D) (held : ℕ → Option D) (files : List (List FullTx)) (exit : ℕ → List Record) (K : Shape)
+    (mint : List Output) (submissions : List FullTx) (E : ℕ → List Record) : Type 0 where
   pub grown : IsGrown K mint (submissions ++ joined files) E exit
   pub disks : KeepsEach device held K exit
   pub rooms : AllHaveRoom device held K exit
@@ -102,7 +104,8 @@ pub record TookLedger {D : Type 0} (device : Ghosts D) (held back : ℕ → Opti
 
 -- whatever a crash may leave of a node's disk that is told opens to this journal, with what is in flight there or without
 abbrev pub KeepsFlights : {D : Type 0} → Ghosts D → (ℕ → Option D) → Shape → (ℕ → List Record) → (ℕ → Option Record) → Type 0
-KeepsFlights device held K X flights = (n : ℕ) → n < node_count K → OfTold (held n) (λ d. (c : List ℕ) → device.images d c → OpensToEither (reverse (X n)) (flights n) c)
+KeepsFlights device held K X flights = (n : ℕ) → n < node_count K
+    → OfTold (held n) (λ d. (c : List ℕ) → device.images d c → OpensToEither (reverse (X n)) (flights n) c)
 
 -- what lanes do over a ledger, as relations between journals. `handed`: the transactions that are handed in, group by group. `next`: those that may
 -- be next for a lane, from journals at entry to later ones. `ends`: whose fault ends it, by the nodes whose disks have failed and by what disks may
@@ -144,7 +147,8 @@ pub record IsLaneFault {D : Type 0} (device : Ghosts D) (before after : Disks D)
   -- whatever a lane wants may come next where it would stand
   pub may_come : MayComeNext ledger.shape ledger.genesis (turns.next ledger.shape (entry_journals ledger) exit) (entry_journals ledger) exit
   -- the fault is that of the least lane that met one; or all came through, and memory ran out behind that
-  pub least : IsLeastAnswer (turns.through ledger.shape (entry_journals ledger) exit) (turns.ends ledger.shape (entry_journals ledger) exit (RoseAt before after) (DiskMayHold device before)) answer
+  pub least : IsLeastAnswer (turns.through ledger.shape (entry_journals ledger) exit)
+      (turns.ends ledger.shape (entry_journals ledger) exit (RoseAt before after) (DiskMayHold device before)) answer
   -- each lane is between batches, or its batch lacks a Lock, or the disk of a node that it asks has failed; or its batch was prepared and is so still,
   -- and the answer is that memory ran out, or a lesser lane has its batch open still; or that is the answer and nothing was written
   pub rests : AllRestBehind ledger.shape (entry_journals ledger) exit (RoseAt before after) (answer ≡ answers.Memory)
@@ -177,7 +181,8 @@ abbrev pub IsCutWaves : Shape → (FullTx → Bool) → List (List FullTx) → (
 IsCutWaves K sound files E X =
     AddsOpen K E X
     ⊎ ((0 < length files) × (done : List (List FullTx)) × (more : List (List FullTx)) × (middle : ℕ → List Record)
-    × (files ≡ done ++ more) × Waves K sound done E middle × Adds (λ b. has_prepare K middle b ≡ false) middle X × HasBegunFirst K sound more middle X)
+    × (files ≡ done ++ more) × Waves K sound done E middle × Adds (λ b. has_prepare K middle b ≡ false) middle X
+    × HasBegunFirst K sound more middle X)
 
 -- no lane has prepared anything, and where the journals at entry are kept all new records are of batches that were open; these are taken up in the
 -- order of their lanes
@@ -188,7 +193,8 @@ NonePrepared K E X = ((lane : ℕ) → IsLaneOf K lane → HasPreparedPieces K l
 -- order of open batches and files; the open batches are taken up in the order of their lanes
 abbrev pub PiecesPrepared : VerdictsOf → List (List FullTx) → Shape → (ℕ → List Record) → (ℕ → List Record) → Type 0
 PiecesPrepared verdicts files K E X =
-    HaveBegunFiles K verdicts files E X × OfKept K E (λ _ _. (sound : FullTx → Bool) → TellsSound verdicts sound → IsCutWaves K sound files E X) × IsInOrder K E X
+    HaveBegunFiles K verdicts files E X × OfKept K E (λ _ _. (sound : FullTx → Bool) → TellsSound verdicts sound → IsCutWaves K sound files E X)
+    × IsInOrder K E X
 
 -- all lanes are idle, and where the journals at entry are kept the open batches are at their end
 abbrev pub AllResumed : Shape → (ℕ → List Record) → (ℕ → List Record) → Type 0

@@ -16,7 +16,8 @@ CountAll [] n = n ≡ 0
 CountAll (J ∷ more) n = (own : ℕ) × (rest : ℕ) × CountsUnspent J own × CountAll more rest × (n ≡ own + rest)
 
 -- `IsRun` holds, and the run tells what it did, by the journals at entry and those at its exit
-pub record IsRunTold {D : Type 0} (device : Ghosts D) (held : ℕ → Option D) (verdicts : VerdictsOf) (files : List (List FullTx)) (ran : Ran) (K : Shape) (mint : List Output) (submissions : List FullTx) (E : ℕ → List Record) : Type 0 where
+pub record IsRunTold {D : Type 0} (device : Ghosts D) (held : ℕ → Option D) (verdicts : VerdictsOf) (files : List (List FullTx)) (ran : Ran)
+    (K : Shape) (mint : List Output) (submissions : List FullTx) (E : ℕ → List Record) : Type 0 where
   pub run : IsRun device held verdicts files K mint submissions E
   pub tells : TellsRun K verdicts files E run.exit ran.resumed.items ran.waves.items
   pub unspent : IsUnspentCount K run.exit ran.unspent

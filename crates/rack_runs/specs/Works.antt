@@ -20,7 +20,8 @@ use Rattle.ledger_runs.specs.Flying.{Launches}
 use Rattle.ledger_runs.specs.Telling.{SamePrepared, TellResumed}
 use Rattle.ledger_runs.specs.Least.{IsLeastOpen}
 use Rattle.ledger_runs.specs.Faults.{IsRunCause, HaveFailed, MayHoldBytes, LanesRest}
-use Rattle.file_runs.specs.Ledgers.{LedgerOf, ledger_journals, ledger_flights, ledger_faults, ledger_opened, ledger_capacity, IsChecked, IsLedgerQuiet, KeepsLedgerOf}
+use Rattle.file_runs.specs.Ledgers.{LedgerOf, ledger_journals, ledger_flights, ledger_faults, ledger_opened, ledger_capacity, IsChecked}
+use Rattle.file_runs.specs.Ledgers.{IsLedgerQuiet, KeepsLedgerOf}
 use Rattle.file_runs.specs.Runs.{joined, FliesWith}
 use Rattle.rack_ledgers.specs.Racked.{Disks}
 use Rattle.rack_ledgers.specs.Ledgers.{ByPlace, AreOpened}
@@ -69,13 +70,15 @@ pub record IsBehind (K : Shape) (E M : ℕ → List Record) : Type 0 where
 -- with what was handed in besides. What is in flight may come next at its node, as before, and a Prepare was so before or is next for its lane. Each
 -- lane is between batches, or its batch lacks a Lock, or the disk of a node that it asks has failed. What may be next and what has been begun is so
 -- from all journals, too, from which a resuming led to M
-pub record LeavesWork {Done : Type 0} (d : Deed Done) (K : Shape) (M X : ℕ → List Record) (before after : ℕ → Option Record) (failed : ℕ → Type 0) : Type 0 where
+pub record LeavesWork {Done : Type 0} (d : Deed Done) (K : Shape) (M X : ℕ → List Record) (before after : ℕ → Option Record) (failed : ℕ → Type 0) :
+    Type 0 where
   pub grows : (n : ℕ) → IsEnd (M n) (X n)
   pub keeps : OfKept K M (λ mint submissions. StaysKept K M X mint (submissions ++ joined d.handed))
   pub flies : OfKept K M (FliesWith K (joined d.handed) M X before after)
   pub launches : Launches K (d.next K M X) M X before after
   pub rests : LanesRest K X failed
-  pub since : (E : ℕ → List Record) → IsBehind K E M → (lane : ℕ) (txs : List Compact) → IsLaneOf K lane → d.next K M X lane txs → d.next K E X lane txs
+  pub since : (E : ℕ → List Record) → IsBehind K E M → (lane : ℕ) (txs : List Compact) → IsLaneOf K lane → d.next K M X lane txs
+      → d.next K E X lane txs
   pub begun : IsWithinLimits K → (E : ℕ → List Record) → IsBehind K E M → d.begun K E X
 
 -- the work came through
@@ -84,7 +87,8 @@ pub record WorkEndsWell {Done : Type 0} (d : Deed Done) (K : Shape) (M X : ℕ �
   pub did : d.did K M X done
 
 -- a lane's fault ended the work, and has its cause
-pub record EndsBadly {Done : Type 0} (d : Deed Done) (K : Shape) (M X : ℕ → List Record) (failed : ℕ → Type 0) (may_hold : ℕ → ℕ → Type 0) (e : LaneFault) : Type 0 where
+pub record EndsBadly {Done : Type 0} (d : Deed Done) (K : Shape) (M X : ℕ → List Record) (failed : ℕ → Type 0) (may_hold : ℕ → ℕ → Type 0)
+    (e : LaneFault) : Type 0 where
   pub cause : IsRunCause K (d.next K M X) M X failed may_hold e
   pub ends : d.ends K M X failed may_hold e
 
@@ -113,7 +117,8 @@ abbrev pub BeginsWork : {Done : Type 0} → Deed Done → Shape → (ℕ → Lis
 BeginsWork d K E X = (IsOpenOnly K E X ⊎ d.begun K E X) × IsInOrder K E X
 
 -- the fault ended the work, by counts of faults and by capacities that tell no more than what is known of the disks
-pub record WorkEndsBy {Done : Type 0} (d : Deed Done) (K : Shape) (M X : ℕ → List Record) (failed : ℕ → Type 0) (may_hold : ℕ → ℕ → Type 0) (e : LaneFault) : Type 0 where
+pub record WorkEndsBy {Done : Type 0} (d : Deed Done) (K : Shape) (M X : ℕ → List Record) (failed : ℕ → Type 0) (may_hold : ℕ → ℕ → Type 0)
+    (e : LaneFault) : Type 0 where
   pub opened_at : ℕ → ℕ
   pub faults_at : ℕ → ℕ
   pub capacity_at : ℕ → ℕ
@@ -123,13 +128,16 @@ pub record WorkEndsBy {Done : Type 0} (d : Deed Done) (K : Shape) (M X : ℕ →
 
 -- the fault came as open batches were brought to their end, nothing was prepared newly, and it is that of the least lane that met one; or these are at
 -- their end, nothing was prepared newly meanwhile, and the fault ended the work behind that
-abbrev pub EndsWork : {Done : Type 0} → Deed Done → Shape → (ℕ → List Record) → (ℕ → List Record) → (ℕ → Type 0) → (ℕ → ℕ → Type 0) → LaneFault → Type 0
+abbrev pub EndsWork : {Done : Type 0} → Deed Done → Shape → (ℕ → List Record) → (ℕ → List Record) → (ℕ → Type 0) → (ℕ → ℕ → Type 0) → LaneFault
+    → Type 0
 EndsWork d K E X failed may_hold e =
     (SamePrepared K E X × IsLeastOpen K E X failed may_hold e)
-    ⊎ ((middle : ℕ → List Record) × ((n : ℕ) → IsEnd (E n) (middle n)) × SamePrepared K E middle × AreIdle K middle × WorkEndsBy d K middle X failed may_hold e)
+    ⊎ ((middle : ℕ → List Record) × ((n : ℕ) → IsEnd (E n) (middle n)) × SamePrepared K E middle × AreIdle K middle
+    × WorkEndsBy d K middle X failed may_hold e)
 
 -- whatever the result: as `LeavesWork`, from the journals at entry
-pub record LeavesAll {Done : Type 0} (d : Deed Done) (K : Shape) (E X : ℕ → List Record) (before after : ℕ → Option Record) (failed : ℕ → Type 0) : Type 0 where
+pub record LeavesAll {Done : Type 0} (d : Deed Done) (K : Shape) (E X : ℕ → List Record) (before after : ℕ → Option Record) (failed : ℕ → Type 0) :
+    Type 0 where
   pub grows : (n : ℕ) → IsEnd (E n) (X n)
   pub keeps : OfKept K E (λ mint submissions. StaysKept K E X mint (submissions ++ joined d.handed))
   pub flies : OfKept K E (FliesWith K (joined d.handed) E X before after)
@@ -154,7 +162,8 @@ abbrev pub work_turns : {Done : Type 0} → Deed Done → Turns
 work_turns d = record { handed = d.handed; next = d.next; ends = EndsWork d; begun = BeginsWork d; through = CameThrough d }
 
 -- a lane's fault ended the resuming or the work
-pub record AllBadly {Done : Type 0} (d : Deed Done) (K : Shape) (E X : ℕ → List Record) (failed : ℕ → Type 0) (may_hold : ℕ → ℕ → Type 0) (e : LaneFault) : Type 0 where
+pub record AllBadly {Done : Type 0} (d : Deed Done) (K : Shape) (E X : ℕ → List Record) (failed : ℕ → Type 0) (may_hold : ℕ → ℕ → Type 0)
+    (e : LaneFault) : Type 0 where
   pub cause : IsRunCause K (d.next K E X) E X failed may_hold e
   pub ends : EndsWork d K E X failed may_hold e
   pub rests : AllRestBehind K E X failed (e.fault ≡ NoMemory)
@@ -210,9 +219,10 @@ pub record IsLedgerOpened {D : Type 0} (device : Ghosts D) (e : AtEntry D) (held
 
 -- they were opened, their open batches were brought to their end, and a work was done
 pub record HasOpenedAndRun {D Done : Type 0} (device : Ghosts D) (d : Deed Done) (e : AtEntry D) (held : ℕ → Option D)
-    (can_put : ℕ → ℕ → Type 0) (can_take : ℕ → Type 0) (ledger : LedgerOf D) (resumed : List ResumedBatch) (came : Result Done LaneFault) : Type 0 where
-  pub begun : IsLedgerOpened device e held can_put can_take
-  pub ran : HasRunWork device d (entry_ledger e) ledger resumed came
+    (can_put : ℕ → ℕ → Type 0) (can_take : ℕ → Type 0) (ledger : LedgerOf D) (resumed : List ResumedBatch) (came : Result Done LaneFault) : Type 0
+  where
+    pub begun : IsLedgerOpened device e held can_put can_take
+    pub ran : HasRunWork device d (entry_ledger e) ledger resumed came
 
 -- where the ledger that the disks told was kept: it came through, each disk holds its journal and no record more and has room for it and for what is
 -- kept, open batches were taken up in the order of their lanes, so many hashes are unspent now, and the sentence holds of the journals
@@ -228,7 +238,8 @@ pub record HasEndedWork {D Done : Type 0} (device : Ghosts D) (held : ℕ → Op
   pub headline : Clean mint (submissions ++ joined d.handed) → Headline K mint (submissions ++ joined d.handed) exit
 
 -- A work was done over the ledger on a rack: the result, and what that leaves of the disks.
-pub record HasDoneWork {D Done : Type 0} (device : Ghosts D) (before after : Disks D) (d : Deed Done) (came : Result (Told Done) Answer) : Type 0 where
-  pub caused : OnOk came (TookLedger device before.held after.held)
-  pub ended : IfOk came (λ told. OfShown device before.held (HasEndedWork device after.held d told))
-  pub stopped : IfErr came (WhyNoTurns device before after (work_turns d))
+pub record HasDoneWork {D Done : Type 0} (device : Ghosts D) (before after : Disks D) (d : Deed Done) (came : Result (Told Done) Answer) : Type 0
+  where
+    pub caused : OnOk came (TookLedger device before.held after.held)
+    pub ended : IfOk came (λ told. OfShown device before.held (HasEndedWork device after.held d told))
+    pub stopped : IfErr came (WhyNoTurns device before after (work_turns d))

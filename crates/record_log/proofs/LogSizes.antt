@@ -4,7 +4,8 @@ use Rattle.std.specs.Prelude.{sum_by}
 use Rattle.std.proofs.lemmas.List.Elements.{All-head, All-tail, All-weaker}
 use Rattle.std.proofs.lemmas.List.Sums.{sum_by-le, sum_by-cons}
 use Rattle.cbdc_types.specs.Limits.{IsWithinLimits}
-use Rattle.cbdc_model.specs.Records.{Shape, Header, Compact, Reply, Outcome, Answered, Record, Held, Missing, Taken, Won, Lacks, Blocked, Genesis, Lock, Finish, Start, Prepare, Commit}
+use Rattle.cbdc_model.specs.Records.{Shape, Header, Compact, Reply, Outcome, Answered, Record, Held, Missing, Taken, Won, Lacks, Blocked, Genesis}
+use Rattle.cbdc_model.specs.Records.{Lock, Finish, Start, Prepare, Commit}
 use Rattle.cbdc_model.specs.Grammar.{IsInGrammar, IsEntry, IsCompact, IsOutcome}
 use Rattle.cbdc_model.specs.Room.{size_of, reply_size, outcome_size, compact_size, answered_size}
 use Rattle.record_log.specs.Bodies.{body_of}
@@ -35,12 +36,22 @@ compact_le t is = omega (arith, is.inputs.0, is.outputs.0)
 pub size_small : (h : Header) (r : Record) → IsWithinLimits h.shape → IsInGrammar h r → size_of r < 2 ^ 25
 size_small h (Genesis header hs) limits is = omega (arith, is.3)
 size_small h (Lock stamp b es) limits is =
-    omega (arith, is.3.1, limits.batch, sum_by-le answered_size 16425 es (All-weaker (IsEntry h.shape h.node) (λ a. answered_size a ≤ 16425) (answered_le h.shape h.node) es is.5))
+    omega (
+      arith,
+      is.3.1,
+      limits.batch,
+      sum_by-le answered_size 16425 es (All-weaker (IsEntry h.shape h.node) (λ a. answered_size a ≤ 16425) (answered_le h.shape h.node) es is.5),
+    )
 size_small h (Finish stamp b ds) limits is = omega (arith, is.3.1, limits.batch)
 size_small h (Prepare stamp b txs) limits is =
     omega (arith, is.3.1, limits.batch, sum_by-le compact_size 16368 txs (All-weaker IsCompact (λ t. compact_size t ≤ 16368) compact_le txs is.4))
 size_small h (Commit stamp b os) limits is =
-    omega (arith, is.3.1, limits.batch, sum_by-le outcome_size 57 os (All-weaker (IsOutcome h.shape) (λ o. outcome_size o ≤ 57) (λ o i. outcome_le o) os is.4))
+    omega (
+      arith,
+      is.3.1,
+      limits.batch,
+      sum_by-le outcome_size 57 os (All-weaker (IsOutcome h.shape) (λ o. outcome_size o ≤ 57) (λ o i. outcome_le o) os is.4),
+    )
 size_small h other limits is = omega arith
 
 -- a gate, a length and the body
@@ -70,9 +81,11 @@ grammar_of h [] is = absurd is
 grammar_of h (r ∷ later) is = is.1
 
 -- the rows of records are as long as the records' sizes say
-pub rows_size : (h : Header) (records : List Record) → IsWithinLimits h.shape → All (IsInGrammar h) records → length (rows (bodies_of records)) ≡ sum_by size_of records
+pub rows_size : (h : Header) (records : List Record) → IsWithinLimits h.shape → All (IsInGrammar h) records
+    → length (rows (bodies_of records)) ≡ sum_by size_of records
 rows_size h [] limits all = refl
 rows_size h (r ∷ later) limits all =
     length-append (row (body_of r)) (rows (bodies_of later))
-    ∙ ap₂ (λ (m n : ℕ). m + n) (length-row (body_of r) ∙ size_is h r limits (All-head (IsInGrammar h) r later all)) (rows_size h later limits (All-tail (IsInGrammar h) r later all))
+    ∙ ap₂ (λ (m n : ℕ). m + n) (length-row (body_of r) ∙ size_is h r limits (All-head (IsInGrammar h) r later all))
+    (rows_size h later limits (All-tail (IsInGrammar h) r later all))
     ∙ sym (sum_by-cons size_of r later)

@@ -19,7 +19,13 @@ pub lacks_long : (shard : ℕ) (x : List ℕ) → length (outcome_bytes (Lacks s
 lacks_long shard x = omega (arith, length-append (number shard) x, length-number shard)
 
 pub blocked_long : (shard : ℕ) (x : List ℕ) (by : Batch) → length (outcome_bytes (Blocked shard x by)) ≡ 25 + length x
-blocked_long shard x by = omega (arith, length-append (number shard ++ x) (batch_bytes by), length-append (number shard) x, length-number shard, batch_length by)
+blocked_long shard x by = omega (
+  arith,
+  length-append (number shard ++ x) (batch_bytes by),
+  length-append (number shard) x,
+  length-number shard,
+  batch_length by,
+)
 
 pub header_long : (h : Header) → length (header_bytes h) ≡ 48 + length h.genesis
 header_long h = simp (length-append, length-number) (omega arith)
@@ -27,7 +33,8 @@ header_long h = simp (length-append, length-number) (omega arith)
 pub compact_long : (t : Compact) → length (compact_bytes t) ≡ length t.id + length (hashes t.inputs) + length (hashes t.outputs)
 compact_long t = omega (arith, length-append (t.id ++ hashes t.inputs) (hashes t.outputs), length-append t.id (hashes t.inputs))
 
-pub answered_long : (a : Answered) → length (answered_bytes a) ≡ 8 + length a.entry.id + length (hashes a.entry.inputs) + length (hashes a.entry.outputs) + length (reply_bytes a.reply)
+pub answered_long : (a : Answered) → length (answered_bytes a)
+    ≡ 8 + length a.entry.id + length (hashes a.entry.inputs) + length (hashes a.entry.outputs) + length (reply_bytes a.reply)
 answered_long a =
     omega (
       arith,
@@ -39,7 +46,8 @@ answered_long a =
     )
 
 -- a body whose rest is counted behind a batch
-pub listed_long : {X : Type 0} (item : X → List ℕ) (kind stamp : ℕ) (b : Batch) (xs : List X) → length (head kind stamp ++ batch_bytes b ++ counted item xs) ≡ 25 + length (counted item xs)
+pub listed_long : {X : Type 0} (item : X → List ℕ) (kind stamp : ℕ) (b : Batch) (xs : List X)
+    → length (head kind stamp ++ batch_bytes b ++ counted item xs) ≡ 25 + length (counted item xs)
 listed_long item kind stamp b xs = omega (arith, length-append (head kind stamp ++ batch_bytes b) (counted item xs), batch_head kind stamp b)
 
 pub genesis_long : (h : Header) (hs : List (List ℕ)) → length (body_of (Genesis h hs)) ≡ 9 + length (header_bytes h) + length (hashes hs)

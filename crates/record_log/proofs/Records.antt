@@ -1,5 +1,6 @@
 -- Records: what is read of a body is spelled so, and what is spelled so is read again, whatever follows.
-use Rattle.std.proofs.Common.{◌≡◌, ℕ, ◌^◌, ◌<◌, ◌≤◌, Bool, true, false, ◌&&◌, cond, eqb, leb, inl, inr, List, ◌∷◌, ◌++◌, length, Result, Ok, Err, refl, sym, ap, subst, ◌∙◌, append_assoc, arith, bytes_eq}
+use Rattle.std.proofs.Common.{◌≡◌, ℕ, ◌^◌, ◌<◌, ◌≤◌, Bool, true, false, ◌&&◌, cond, eqb, leb, inl, inr, List, ◌∷◌, ◌++◌, length, Result, Ok, Err}
+use Rattle.std.proofs.Common.{refl, sym, ap, subst, ◌∙◌, append_assoc, arith, bytes_eq}
 use Rattle.std.proofs.lemmas.Bool.{eqb-true, eq-eqb, leb-true, le-leb}
 use Rattle.std.proofs.lemmas.Slice.Eq.{bytes_eq-Decides}
 use Rattle.cbdc_types.specs.Limits.{ShapeOf, IsWithinLimits}
@@ -16,14 +17,17 @@ use Rattle.byte_fields.specs.declared.fault.Fault.{Fault}
 use Rattle.byte_fields.specs.Faults.{fault, IsBytes}
 use Rattle.byte_spelling.specs.Spelling.{number, counted, FitsNumber, FitsHash, FitsList}
 use Rattle.byte_fields.specs.Reading.{field_at, number_at, hash_at, list_at}
-use Rattle.byte_fields.specs.Records.{hashes, batch_bytes, compact_bytes, answered_bytes, outcome_bytes, decision_bytes, small_at, batch_at, compact_at, answered_at, outcome_field_at, decision_at}
+use Rattle.byte_fields.specs.Records.{hashes, batch_bytes, compact_bytes, answered_bytes, outcome_bytes, decision_bytes, small_at, batch_at}
+use Rattle.byte_fields.specs.Records.{compact_at, answered_at, outcome_field_at, decision_at}
 use Rattle.byte_fields.proofs.Fields.{IsRead, Takes, read_of, field_item}
 use Rattle.byte_fields.proofs.Lists.{list_read}
 use Rattle.byte_fields.proofs.Readers.{one_read, two_read, three_read, four_read, tested_read, refits, respells, chosen}
-use Rattle.byte_fields.proofs.Parts.{FitsByte, FitsSmall, FitsBatch, FitsCompact, FitsAnswered, FitsOutcome, FitsDecision, number_read, hash_read, small_read, batch_read, compact_read, answered_read, outcome_read, decision_read, tagged_read}
+use Rattle.byte_fields.proofs.Parts.{FitsByte, FitsSmall, FitsBatch, FitsCompact, FitsAnswered, FitsOutcome, FitsDecision, number_read, hash_read}
+use Rattle.byte_fields.proofs.Parts.{small_read, batch_read, compact_read, answered_read, outcome_read, decision_read, tagged_read}
 use Rattle.record_log.specs.declared.reading.Head.{Head}
 use Rattle.record_log.specs.Bodies.{magic, header_bytes, body_of}
-use Rattle.record_log.specs.Reading.{is_from_one_to, is_shape, magic_at, sizes_at, shape_at, header_at, zero_at, head_at, genesis_at, lock_at, finish_at, forget_at, start_at, prepare_at, commit_at, discard_at, done_at, body_at}
+use Rattle.record_log.specs.Reading.{is_from_one_to, is_shape, magic_at, sizes_at, shape_at, header_at, zero_at, head_at, genesis_at, lock_at}
+use Rattle.record_log.specs.Reading.{finish_at, forget_at, start_at, prepare_at, commit_at, discard_at, done_at, body_at}
 
 -- ---- what fits its fields
 
@@ -50,7 +54,8 @@ FitsRecord (Done stamp b) = FitsHead (record { stamp = stamp; batch = b })
 -- ---- headers
 
 eight_read : IsRead (field_at 8 (λ b. b)) (λ b. b) (λ b. length b ≡ 8)
-eight_read = read_of (field_at 8 (λ b. b)) (λ b. b) (λ b. length b ≡ 8) (field_item 8 (λ b. b) (λ b. b) (λ b. length b ≡ 8) (λ b len fits. (refl, len)) (λ b len. (len, refl)))
+eight_read = read_of (field_at 8 (λ b. b)) (λ b. b) (λ b. length b ≡ 8)
+    (field_item 8 (λ b. b) (λ b. b) (λ b. length b ≡ 8) (λ b len fits. (refl, len)) (λ b len. (len, refl)))
 
 abbrev IsMagic : List ℕ → Type 0
 IsMagic m = m ≡ magic
@@ -85,7 +90,8 @@ FitsSizes s = FitsSmall s.shards × FitsSmall s.coordinators × FitsSmall s.lane
 
 sizes_read : IsRead sizes_at shape_text FitsSizes
 unfolding sizes_at sizes_is
-sizes_read = four_read small_at number FitsSmall small_read small_at number FitsSmall small_read small_at number FitsSmall small_read small_at number FitsSmall small_read sizes_is shape_text FitsSizes
+sizes_read = four_read small_at number FitsSmall small_read small_at number FitsSmall small_read small_at number FitsSmall small_read small_at number
+    FitsSmall small_read sizes_is shape_text FitsSizes
     (λ s c l b. refl)
     (λ s c l b p q r t. (p, q, r, t))
     (λ s fits. (s.shards, s.coordinators, s.lanes, s.batch, fits.0, fits.1, fits.2, fits.3, refl))
@@ -102,7 +108,12 @@ shape_within s e =
     record { some_shard = p.0; shards = p.1; some_coordinator = q.0; coordinators = q.1; some_lane = r.0; lanes = r.1; some_batch = t.0; batch = t.1 }
 
 shape_is : (s : ShapeOf) → IsWithinLimits s → is_shape s ≡ true
-shape_is s l = rw (is_within 64 s.shards l.some_shard l.shards, is_within 16 s.coordinators l.some_coordinator l.coordinators, is_within 16 s.lanes l.some_lane l.lanes, is_within 1024 s.batch l.some_batch l.batch) refl
+shape_is s l = rw (
+  is_within 64 s.shards l.some_shard l.shards,
+  is_within 16 s.coordinators l.some_coordinator l.coordinators,
+  is_within 16 s.lanes l.some_lane l.lanes,
+  is_within 1024 s.batch l.some_batch l.batch,
+) refl
 
 shape_fits : (s : ShapeOf) → IsWithinLimits s → FitsSizes s
 shape_fits s l = (omega (arith, l.shards), omega (arith, l.coordinators), omega (arith, l.lanes), omega (arith, l.batch))
@@ -119,7 +130,8 @@ header_is m node shape genesis = record { node = node; shape = shape; genesis = 
 
 header_read : IsRead header_at header_bytes FitsHeader
 unfolding header_at header_is
-header_read = four_read magic_at (λ m. magic) IsMagic magic_read small_at number FitsSmall small_read shape_at shape_text IsWithinLimits shape_read hash_at (λ h. h) FitsHash hash_read header_is header_bytes FitsHeader
+header_read = four_read magic_at (λ m. magic) IsMagic magic_read small_at number FitsSmall small_read shape_at shape_text IsWithinLimits shape_read
+    hash_at (λ h. h) FitsHash hash_read header_is header_bytes FitsHeader
     (λ m node s id. simp append_assoc)
     (λ m node s id a b c d. record { node = b; shape = c; genesis = d })
     (λ h fits. (magic, h.node, h.shape, h.genesis, refl, fits.node, fits.shape, fits.genesis, refl))
@@ -187,7 +199,8 @@ IsGenesis r = (z : ℕ) × (h : Header) × (hs : List (List ℕ)) × IsZero z ×
 
 genesis_read : IsRead genesis_at record_rest IsGenesis
 unfolding genesis_at
-genesis_read = three_read zero_at (λ n. number 0) IsZero zero_read header_at header_bytes FitsHeader header_read (list_at 1000000 hash_at) hashes (FitsList 1000000 FitsHash) minted_read (λ z h hs. Genesis h hs) record_rest IsGenesis
+genesis_read = three_read zero_at (λ n. number 0) IsZero zero_read header_at header_bytes FitsHeader header_read (list_at 1000000 hash_at) hashes
+    (FitsList 1000000 FitsHash) minted_read (λ z h hs. Genesis h hs) record_rest IsGenesis
     (λ z h hs. sym (append_assoc (number 0) (header_bytes h) (hashes hs)))
     (λ z h hs a b c. (z, h, hs, a, b, c, refl))
     (λ r is. is)
@@ -207,7 +220,8 @@ IsLock r = (h : Head) × (xs : List Answered) × FitsHead h × FitsList 1024 Fit
 
 lock_read : IsRead lock_at record_rest IsLock
 unfolding lock_at
-lock_read = two_read head_at head_text FitsHead head_read (list_at 1024 answered_at) (counted answered_bytes) (FitsList 1024 FitsAnswered) entries_read (λ h xs. Lock h.stamp h.batch xs) record_rest IsLock
+lock_read = two_read head_at head_text FitsHead head_read (list_at 1024 answered_at) (counted answered_bytes) (FitsList 1024 FitsAnswered)
+    entries_read (λ h xs. Lock h.stamp h.batch xs) record_rest IsLock
     (λ h xs. refl)
     (λ h xs a b. (h, xs, a, b, refl))
     (λ r is. is)
@@ -217,7 +231,8 @@ IsFinish r = (h : Head) × (xs : List Bool) × FitsHead h × FitsList 1024 FitsD
 
 finish_read : IsRead finish_at record_rest IsFinish
 unfolding finish_at
-finish_read = two_read head_at head_text FitsHead head_read (list_at 1024 decision_at) (counted decision_bytes) (FitsList 1024 FitsDecision) decisions_read (λ h xs. Finish h.stamp h.batch xs) record_rest IsFinish
+finish_read = two_read head_at head_text FitsHead head_read (list_at 1024 decision_at) (counted decision_bytes) (FitsList 1024 FitsDecision)
+    decisions_read (λ h xs. Finish h.stamp h.batch xs) record_rest IsFinish
     (λ h xs. refl)
     (λ h xs a b. (h, xs, a, b, refl))
     (λ r is. is)
@@ -227,7 +242,8 @@ IsPrepare r = (h : Head) × (xs : List CompactTx) × FitsHead h × FitsList 1024
 
 prepare_read : IsRead prepare_at record_rest IsPrepare
 unfolding prepare_at
-prepare_read = two_read head_at head_text FitsHead head_read (list_at 1024 compact_at) (counted compact_bytes) (FitsList 1024 FitsCompact) txs_read (λ h xs. Prepare h.stamp h.batch xs) record_rest IsPrepare
+prepare_read = two_read head_at head_text FitsHead head_read (list_at 1024 compact_at) (counted compact_bytes) (FitsList 1024 FitsCompact) txs_read
+    (λ h xs. Prepare h.stamp h.batch xs) record_rest IsPrepare
     (λ h xs. refl)
     (λ h xs a b. (h, xs, a, b, refl))
     (λ r is. is)
@@ -237,7 +253,8 @@ IsCommit r = (h : Head) × (xs : List Outcome) × FitsHead h × FitsList 1024 Fi
 
 commit_read : IsRead commit_at record_rest IsCommit
 unfolding commit_at
-commit_read = two_read head_at head_text FitsHead head_read (list_at 1024 outcome_field_at) (counted outcome_bytes) (FitsList 1024 FitsOutcome) outcomes_read (λ h xs. Commit h.stamp h.batch xs) record_rest IsCommit
+commit_read = two_read head_at head_text FitsHead head_read (list_at 1024 outcome_field_at) (counted outcome_bytes) (FitsList 1024 FitsOutcome)
+    outcomes_read (λ h xs. Commit h.stamp h.batch xs) record_rest IsCommit
     (λ h xs. refl)
     (λ h xs a b. (h, xs, a, b, refl))
     (λ r is. is)
@@ -308,7 +325,8 @@ kind_found t k y r named kind is fits = (sym (ap kind_of is) ∙ (kind ∙ sym (
 abbrev Found : List ℕ → ℕ → List ℕ → Record → List ℕ → Type 0
 Found whole t bytes r rest = (kind_of r ≡ t) × Takes bytes (record_rest r) rest × FitsRecord r
 
-takes_9 : (whole : List ℕ) (t : ℕ) (bytes : List ℕ) (r : Record) (rest : List ℕ) → IsBytes bytes → from_9 whole t bytes ≡ Ok (r, rest) → Found whole t bytes r rest
+takes_9 : (whole : List ℕ) (t : ℕ) (bytes : List ℕ) (r : Record) (rest : List ℕ) → IsBytes bytes → from_9 whole t bytes ≡ Ok (r, rest)
+    → Found whole t bytes r rest
 takes_9 whole t bytes r rest fits e =
     elim (chosen (eqb t 9) (done_at bytes) (Err (fault Form whole)) (r, rest) e) [
       | inl this ↦
@@ -318,7 +336,8 @@ takes_9 whole t bytes r rest fits e =
       | inr more ↦ let wrong = more.1 in absurd (cc)
     ]
 
-takes_8 : (whole : List ℕ) (t : ℕ) (bytes : List ℕ) (r : Record) (rest : List ℕ) → IsBytes bytes → from_8 whole t bytes ≡ Ok (r, rest) → Found whole t bytes r rest
+takes_8 : (whole : List ℕ) (t : ℕ) (bytes : List ℕ) (r : Record) (rest : List ℕ) → IsBytes bytes → from_8 whole t bytes ≡ Ok (r, rest)
+    → Found whole t bytes r rest
 takes_8 whole t bytes r rest fits e =
     elim (chosen (eqb t 8) (discard_at bytes) (from_9 whole t bytes) (r, rest) e) [
       | inl this ↦
@@ -328,7 +347,8 @@ takes_8 whole t bytes r rest fits e =
       | inr more ↦ takes_9 whole t bytes r rest fits more.1
     ]
 
-takes_7 : (whole : List ℕ) (t : ℕ) (bytes : List ℕ) (r : Record) (rest : List ℕ) → IsBytes bytes → from_7 whole t bytes ≡ Ok (r, rest) → Found whole t bytes r rest
+takes_7 : (whole : List ℕ) (t : ℕ) (bytes : List ℕ) (r : Record) (rest : List ℕ) → IsBytes bytes → from_7 whole t bytes ≡ Ok (r, rest)
+    → Found whole t bytes r rest
 takes_7 whole t bytes r rest fits e =
     elim (chosen (eqb t 7) (commit_at bytes) (from_8 whole t bytes) (r, rest) e) [
       | inl this ↦
@@ -338,7 +358,8 @@ takes_7 whole t bytes r rest fits e =
       | inr more ↦ takes_8 whole t bytes r rest fits more.1
     ]
 
-takes_6 : (whole : List ℕ) (t : ℕ) (bytes : List ℕ) (r : Record) (rest : List ℕ) → IsBytes bytes → from_6 whole t bytes ≡ Ok (r, rest) → Found whole t bytes r rest
+takes_6 : (whole : List ℕ) (t : ℕ) (bytes : List ℕ) (r : Record) (rest : List ℕ) → IsBytes bytes → from_6 whole t bytes ≡ Ok (r, rest)
+    → Found whole t bytes r rest
 takes_6 whole t bytes r rest fits e =
     elim (chosen (eqb t 6) (prepare_at bytes) (from_7 whole t bytes) (r, rest) e) [
       | inl this ↦
@@ -348,7 +369,8 @@ takes_6 whole t bytes r rest fits e =
       | inr more ↦ takes_7 whole t bytes r rest fits more.1
     ]
 
-takes_5 : (whole : List ℕ) (t : ℕ) (bytes : List ℕ) (r : Record) (rest : List ℕ) → IsBytes bytes → from_5 whole t bytes ≡ Ok (r, rest) → Found whole t bytes r rest
+takes_5 : (whole : List ℕ) (t : ℕ) (bytes : List ℕ) (r : Record) (rest : List ℕ) → IsBytes bytes → from_5 whole t bytes ≡ Ok (r, rest)
+    → Found whole t bytes r rest
 takes_5 whole t bytes r rest fits e =
     elim (chosen (eqb t 5) (start_at bytes) (from_6 whole t bytes) (r, rest) e) [
       | inl this ↦
@@ -358,7 +380,8 @@ takes_5 whole t bytes r rest fits e =
       | inr more ↦ takes_6 whole t bytes r rest fits more.1
     ]
 
-takes_4 : (whole : List ℕ) (t : ℕ) (bytes : List ℕ) (r : Record) (rest : List ℕ) → IsBytes bytes → from_4 whole t bytes ≡ Ok (r, rest) → Found whole t bytes r rest
+takes_4 : (whole : List ℕ) (t : ℕ) (bytes : List ℕ) (r : Record) (rest : List ℕ) → IsBytes bytes → from_4 whole t bytes ≡ Ok (r, rest)
+    → Found whole t bytes r rest
 takes_4 whole t bytes r rest fits e =
     elim (chosen (eqb t 4) (forget_at bytes) (from_5 whole t bytes) (r, rest) e) [
       | inl this ↦
@@ -368,7 +391,8 @@ takes_4 whole t bytes r rest fits e =
       | inr more ↦ takes_5 whole t bytes r rest fits more.1
     ]
 
-takes_3 : (whole : List ℕ) (t : ℕ) (bytes : List ℕ) (r : Record) (rest : List ℕ) → IsBytes bytes → from_3 whole t bytes ≡ Ok (r, rest) → Found whole t bytes r rest
+takes_3 : (whole : List ℕ) (t : ℕ) (bytes : List ℕ) (r : Record) (rest : List ℕ) → IsBytes bytes → from_3 whole t bytes ≡ Ok (r, rest)
+    → Found whole t bytes r rest
 takes_3 whole t bytes r rest fits e =
     elim (chosen (eqb t 3) (finish_at bytes) (from_4 whole t bytes) (r, rest) e) [
       | inl this ↦
@@ -378,7 +402,8 @@ takes_3 whole t bytes r rest fits e =
       | inr more ↦ takes_4 whole t bytes r rest fits more.1
     ]
 
-takes_2 : (whole : List ℕ) (t : ℕ) (bytes : List ℕ) (r : Record) (rest : List ℕ) → IsBytes bytes → from_2 whole t bytes ≡ Ok (r, rest) → Found whole t bytes r rest
+takes_2 : (whole : List ℕ) (t : ℕ) (bytes : List ℕ) (r : Record) (rest : List ℕ) → IsBytes bytes → from_2 whole t bytes ≡ Ok (r, rest)
+    → Found whole t bytes r rest
 takes_2 whole t bytes r rest fits e =
     elim (chosen (eqb t 2) (lock_at bytes) (from_3 whole t bytes) (r, rest) e) [
       | inl this ↦
@@ -388,7 +413,8 @@ takes_2 whole t bytes r rest fits e =
       | inr more ↦ takes_3 whole t bytes r rest fits more.1
     ]
 
-takes_1 : (whole : List ℕ) (t : ℕ) (bytes : List ℕ) (r : Record) (rest : List ℕ) → IsBytes bytes → from_1 whole t bytes ≡ Ok (r, rest) → Found whole t bytes r rest
+takes_1 : (whole : List ℕ) (t : ℕ) (bytes : List ℕ) (r : Record) (rest : List ℕ) → IsBytes bytes → from_1 whole t bytes ≡ Ok (r, rest)
+    → Found whole t bytes r rest
 takes_1 whole t bytes r rest fits e =
     elim (chosen (eqb t 1) (genesis_at bytes) (from_2 whole t bytes) (r, rest) e) [
       | inl this ↦
@@ -405,11 +431,14 @@ kind_small other = omega arith
 body_again : (whole : List ℕ) (r : Record) (rest : List ℕ) → FitsRecord r → from_1 whole (kind_of r) (record_rest r ++ rest) ≡ Ok (r, rest)
 body_again whole (Genesis h hs) rest fits = genesis_read.again (Genesis h hs) rest (0, h, hs, refl, fits.0, fits.1, refl)
 body_again whole (Lock stamp b xs) rest fits = lock_read.again (Lock stamp b xs) rest (record { stamp = stamp; batch = b }, xs, fits.0, fits.1, refl)
-body_again whole (Finish stamp b xs) rest fits = finish_read.again (Finish stamp b xs) rest (record { stamp = stamp; batch = b }, xs, fits.0, fits.1, refl)
+body_again whole (Finish stamp b xs) rest fits = finish_read.again (Finish stamp b xs) rest
+    (record { stamp = stamp; batch = b }, xs, fits.0, fits.1, refl)
 body_again whole (Forget stamp b) rest fits = forget_read.again (Forget stamp b) rest (record { stamp = stamp; batch = b }, fits, refl)
 body_again whole (Start h) rest fits = start_read.again (Start h) rest (0, h, refl, fits, refl)
-body_again whole (Prepare stamp b xs) rest fits = prepare_read.again (Prepare stamp b xs) rest (record { stamp = stamp; batch = b }, xs, fits.0, fits.1, refl)
-body_again whole (Commit stamp b xs) rest fits = commit_read.again (Commit stamp b xs) rest (record { stamp = stamp; batch = b }, xs, fits.0, fits.1, refl)
+body_again whole (Prepare stamp b xs) rest fits =
+    prepare_read.again (Prepare stamp b xs) rest (record { stamp = stamp; batch = b }, xs, fits.0, fits.1, refl)
+body_again whole (Commit stamp b xs) rest fits = commit_read.again (Commit stamp b xs) rest
+    (record { stamp = stamp; batch = b }, xs, fits.0, fits.1, refl)
 body_again whole (Discard stamp b) rest fits = discard_read.again (Discard stamp b) rest (record { stamp = stamp; batch = b }, fits, refl)
 body_again whole (Done stamp b) rest fits = done_read.again (Done stamp b) rest (record { stamp = stamp; batch = b }, fits, refl)
 
@@ -419,4 +448,5 @@ body_same other = refl
 
 pub body_read : IsRead body_at body_of FitsRecord
 unfolding body_at
-body_read = respells body_at (λ r. kind_of r ∷ record_rest r) body_of FitsRecord (tagged_read from_1 kind_of record_rest FitsRecord kind_small takes_1 body_again) (λ r fits. body_same r)
+body_read = respells body_at (λ r. kind_of r ∷ record_rest r) body_of FitsRecord
+    (tagged_read from_1 kind_of record_rest FitsRecord kind_small takes_1 body_again) (λ r fits. body_same r)

@@ -1,5 +1,6 @@
 -- Rows that were read, one after another.
-use Rattle.std.proofs.Common.{◌≡◌, ℕ, zero, ◌+◌, ◌<◌, ◌≤◌, min, List, [], ◌∷◌, ◌++◌, length, take, drop, get_or, Some, sym, ◌∙◌, ap, ap₂, subst, arith, length-append, take-append-drop, add-one, suc, take_all, drop-cons}
+use Rattle.std.proofs.Common.{◌≡◌, ℕ, zero, ◌+◌, ◌<◌, ◌≤◌, min, List, [], ◌∷◌, ◌++◌, length, take, drop, get_or, Some, sym, ◌∙◌, ap, ap₂, subst}
+use Rattle.std.proofs.Common.{arith, length-append, take-append-drop, add-one, suc, take_all, drop-cons}
 use Rattle.std.specs.Prelude.{slice_get}
 use Rattle.std.proofs.lemmas.List.{map-append}
 use Rattle.std.proofs.lemmas.List.Elements.{All-push}
@@ -19,7 +20,8 @@ pub record RecordsSoFar (h : Header) (records : List Record) (at i : ℕ) (bodie
   pub spelled : bodies_of records ≡ take i bodies
   pub place : at ≡ place_behind records
 
-pub start : (h : Header) (first : Record) (at : ℕ) (bodies : List (List ℕ)) (b : List ℕ) → MayHold h (first ∷ []) → slice_get bodies 0 ≡ Some (body_of first) → slice_get bodies 0 ≡ Some b → at ≡ min (length (row b)) 18446744073709551615
+pub start : (h : Header) (first : Record) (at : ℕ) (bodies : List (List ℕ)) (b : List ℕ) → MayHold h (first ∷ [])
+    → slice_get bodies 0 ≡ Some (body_of first) → slice_get bodies 0 ≡ Some b → at ≡ min (length (row b)) 18446744073709551615
     → RecordsSoFar h (first ∷ []) at 1 bodies
 start h first at [] b holds is of place = cc
 start h first at (c ∷ bodies) b holds is of place =
@@ -28,7 +30,8 @@ start h first at (c ∷ bodies) b holds is of place =
     record {
       holds = holds;
       spelled = ap (λ (x : List ℕ). x ∷ []) (sym here);
-      place = place ∙ ap (λ (x : List ℕ). min (length (row x)) 18446744073709551615) same ∙ ap (λ n. min n 18446744073709551615) (omega (arith, length-append (row (body_of first)) []));
+      place = place ∙ ap (λ (x : List ℕ). min (length (row x)) 18446744073709551615) same
+          ∙ ap (λ n. min n 18446744073709551615) (omega (arith, length-append (row (body_of first)) []));
     }
 
 holds_more : (h : Header) (records : List Record) (r : Record) → MayHold h records → IsInGrammar h r → MayHold h (records ++ r ∷ [])
@@ -38,11 +41,14 @@ holds_more h (q ∷ later) r holds is = (holds.0, All-push (IsInGrammar h) (q �
 bodies_push : (records : List Record) (r : Record) → bodies_of (records ++ r ∷ []) ≡ bodies_of records ++ body_of r ∷ []
 bodies_push records r = map-append body_of records (r ∷ [])
 
-pub more : (h : Header) (records : List Record) (at i size next : ℕ) (bodies : List (List ℕ)) (b : List ℕ) (r : Record) → RecordsSoFar h records at i bodies → i < length bodies → b ≡ get_or bodies i b → IsBody h b r
-    → size ≡ min (length (row b)) 18446744073709551615 → next ≡ min (at + size) 18446744073709551615 → RecordsSoFar h (records ++ r ∷ []) next (i + 1) bodies
+pub more : (h : Header) (records : List Record) (at i size next : ℕ) (bodies : List (List ℕ)) (b : List ℕ) (r : Record)
+    → RecordsSoFar h records at i bodies → i < length bodies → b ≡ get_or bodies i b → IsBody h b r
+    → size ≡ min (length (row b)) 18446744073709551615 → next ≡ min (at + size) 18446744073709551615
+    → RecordsSoFar h (records ++ r ∷ []) next (i + 1) bodies
 more h records at i size next bodies b r so_far inside here is size_is next_is = record {
   holds = holds_more h records r so_far.holds is.1;
-  spelled = bodies_push records r ∙ ap₂ (λ (xs : List (List ℕ)) (x : List ℕ). xs ++ x ∷ []) so_far.spelled (sym is.0 ∙ here) ∙ sym (ap (λ n. take n bodies) (add-one i) ∙ take-suc bodies i b inside);
+  spelled = bodies_push records r ∙ ap₂ (λ (xs : List (List ℕ)) (x : List ℕ). xs ++ x ∷ []) so_far.spelled (sym is.0 ∙ here)
+      ∙ sym (ap (λ n. take n bodies) (add-one i) ∙ take-suc bodies i b inside);
   place =
       let len : length (rows (bodies_of (records ++ r ∷ []))) ≡ length (rows (bodies_of records)) + length (row b) =
       ap (λ (xs : List (List ℕ)). length (rows xs)) (bodies_push records r) ∙ length-rows-push (bodies_of records) (body_of r)
@@ -54,7 +60,8 @@ at_drop : (bodies : List (List ℕ)) (i : ℕ) (b : List ℕ) → i < length bod
 at_drop bodies i b inside here = drop-cons bodies i b inside ∙ ap (λ (x : List ℕ). x ∷ drop (suc i) bodies) (sym here)
 
 -- the next body spells no record
-pub stop : (h : Header) (records : List Record) (at i : ℕ) (bodies : List (List ℕ)) (b : List ℕ) → RecordsSoFar h records at i bodies → i < length bodies → b ≡ get_or bodies i b → ((r : Record) → IsBody h b r → ⊥)
+pub stop : (h : Header) (records : List Record) (at i : ℕ) (bodies : List (List ℕ)) (b : List ℕ) → RecordsSoFar h records at i bodies
+    → i < length bodies → b ≡ get_or bodies i b → ((r : Record) → IsBody h b r → ⊥)
     → StopsAt h records at bodies
 stop h records at i bodies b so_far inside here none = record {
   next = b;
@@ -65,7 +72,8 @@ stop h records at i bodies b so_far inside here none = record {
 }
 
 -- all bodies were read
-pub all_read : (h : Header) (records : List Record) (at i : ℕ) (bodies : List (List ℕ)) → RecordsSoFar h records at i bodies → length bodies ≤ i → bodies ≡ bodies_of records
+pub all_read : (h : Header) (records : List Record) (at i : ℕ) (bodies : List (List ℕ)) → RecordsSoFar h records at i bodies → length bodies ≤ i
+    → bodies ≡ bodies_of records
 all_read h records at i bodies so_far end = sym (take_all i bodies end) ∙ sym so_far.spelled
 
 pub no_first : (bodies : List (List ℕ)) (b : List ℕ) → slice_get bodies 0 ≡ Some b → ((r : Record) → IsFirstBody b r → ⊥) → IsNoFirstBody bodies

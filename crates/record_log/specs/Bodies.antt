@@ -5,7 +5,8 @@ use Rattle.cbdc_types.specs.declared.record.Record.{Record}
 use Rattle.cbdc_types.specs.declared.record.Record.TheVariants.{Genesis, Lock, Finish, Forget, Start, Prepare, Commit, Discard, Done}
 use Rattle.byte_spelling.specs.Spelling.{number, counted}
 use Rattle.byte_fields.specs.Records.{hashes, batch_bytes, compact_bytes, answered_bytes, outcome_bytes, decision_bytes}
-use Rattle.cbdc_model.specs.Records.{genesis_kind, lock_kind, finish_kind, forget_kind, start_kind, prepare_kind, commit_kind, discard_kind, done_kind}
+use Rattle.cbdc_model.specs.Records.{genesis_kind, lock_kind, finish_kind, forget_kind, start_kind, prepare_kind, commit_kind, discard_kind}
+use Rattle.cbdc_model.specs.Records.{done_kind}
 
 -- HAMJRNL1, which each journal begins with
 abbrev pub magic : List ℕ
@@ -13,7 +14,8 @@ magic = 72 ∷ 65 ∷ 77 ∷ 74 ∷ 82 ∷ 78 ∷ 76 ∷ 49 ∷ []
 
 -- the magic, a header's numbers and its genesis id
 abbrev pub header_bytes : Header → List ℕ
-header_bytes h = magic ++ number h.node ++ number h.shape.shards ++ number h.shape.coordinators ++ number h.shape.lanes ++ number h.shape.batch ++ h.genesis
+header_bytes h = magic ++ number h.node ++ number h.shape.shards ++ number h.shape.coordinators ++ number h.shape.lanes ++ number h.shape.batch
+    ++ h.genesis
 
 -- a record's kind and its stamp
 abbrev pub head : ℕ → ℕ → List ℕ

@@ -8,7 +8,8 @@ use Rattle.record_log.specs.Bodies.{body_of}
 
 -- two records have two bodies, and none is the front of another
 abbrev pub OneBodyLaw : Type 0
-OneBodyLaw = (h : Header) (q r : Record) (rest : List ℕ) → IsWithinLimits h.shape → IsInGrammar h q → IsInGrammar h r → body_of q ≡ body_of r ++ rest → (q ≡ r) × (rest ≡ [])
+OneBodyLaw = (h : Header) (q r : Record) (rest : List ℕ) → IsWithinLimits h.shape → IsInGrammar h q → IsInGrammar h r → body_of q ≡ body_of r ++ rest
+    → (q ≡ r) × (rest ≡ [])
 
 -- a gate, eight bytes of length and the body are as many bytes as the record takes in its journal
 abbrev pub SizeLaw : Type 0

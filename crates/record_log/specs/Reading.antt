@@ -11,7 +11,8 @@ use Rattle.byte_fields.specs.Reading.{field_at, number_at, hash_at, list_at}
 use Rattle.byte_fields.specs.Records.{byte_at, small_at, batch_at, compact_at, answered_at, outcome_field_at, decision_at}
 use Rattle.record_log.specs.declared.reading.Head.{Head}
 use Rattle.record_log.specs.Bodies.{magic}
-use Rattle.cbdc_model.specs.Records.{genesis_kind, lock_kind, finish_kind, forget_kind, start_kind, prepare_kind, commit_kind, discard_kind, done_kind}
+use Rattle.cbdc_model.specs.Records.{genesis_kind, lock_kind, finish_kind, forget_kind, start_kind, prepare_kind, commit_kind, discard_kind}
+use Rattle.cbdc_model.specs.Records.{done_kind}
 
 -- the eight bytes HAMJRNL1 at the front; any others are out of form
 unfoldable pub magic_at : List ℕ → Result (List ℕ × List ℕ) Fault

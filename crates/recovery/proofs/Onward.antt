@@ -25,13 +25,15 @@ pub made_by : (K : Shape) (alone : Bool) (o : OpenLane) (c : Result ResumedBatch
 made_by K alone o (Ok r) old new one = one.taken.made
 made_by K alone o (Err e) old new stop = (resume_left K alone o old new e stop stop.stands).3.made
 
-module _ (K : Shape) (lane : ℕ) (home : home_of K lane < K.coordinators) (alone : Bool) (log log' : Sight) (I J : ℕ → Sight) (made : Made K [] alone lane (view K lane log I) (view K lane log' J)) where
+module _ (K : Shape) (lane : ℕ) (home : home_of K lane < K.coordinators) (alone : Bool) (log log' : Sight) (I J : ℕ → Sight)
+    (made : Made K [] alone lane (view K lane log I) (view K lane log' J)) where
   pub log_grows : IsEnd log.seen log'.seen
   log_grows = subst (λ L. IsEnd log.seen L) (view_home K lane home log' J (home_of K lane) refl)
       (subst (λ L. IsEnd L (view K lane log' J (home_of K lane))) (view_home K lane home log I (home_of K lane) refl) (made.grows (home_of K lane)))
 
   pub shard_grows : (s : ℕ) → IsEnd (I s).seen (J s).seen
-  shard_grows s = subst (λ L. IsEnd (I s).seen L) (view_shard K lane home log' J s) (subst (λ L. IsEnd L (view K lane log' J (shard_node K s))) (view_shard K lane home log I s) (made.grows (shard_node K s)))
+  shard_grows s = subst (λ L. IsEnd (I s).seen L) (view_shard K lane home log' J s)
+      (subst (λ L. IsEnd L (view K lane log' J (shard_node K s))) (view_shard K lane home log I s) (made.grows (shard_node K s)))
 
 -- ---- nodes
 
@@ -39,14 +41,21 @@ pub gone_same : (x : Sight) → HasGoneOn x x
 gone_same x = record { node = nodes_same (λ n. x) 0; grows = end_self x.seen }
 
 pub gone_on : (x y z : Sight) → HasGoneOn x y → HasGoneOn y z → HasGoneOn x z
-gone_on x y z a b = record { node = nodes_on (λ n. x) (λ n. y) (λ n. z) (λ n. a.node) (λ n. b.node) 0; grows = end_trans x.seen y.seen z.seen a.grows b.grows }
+gone_on x y z a b = record {
+  node = nodes_on (λ n. x) (λ n. y) (λ n. z) (λ n. a.node) (λ n. b.node) 0;
+  grows = end_trans x.seen y.seen z.seen a.grows b.grows;
+}
 
 -- the coordinator that was asked has, and all others are as they were
-pub logs_gone : (X Y : ℕ → Sight) (at at' : ℕ) → at' ≡ at → KeepNodes X Y → ((n : ℕ) → n ≢ at → Y n ≡ X n) → IsEnd (X at).seen (Y at').seen → (n : ℕ) → HasGoneOn (X n) (Y n)
+pub logs_gone : (X Y : ℕ → Sight) (at at' : ℕ) → at' ≡ at → KeepNodes X Y → ((n : ℕ) → n ≢ at → Y n ≡ X n) → IsEnd (X at).seen (Y at').seen → (n : ℕ)
+    → HasGoneOn (X n) (Y n)
 logs_gone X Y at at' same nodes elsewhere grows n = go (eqb_tells n at)
   where
     go : (((n == at) ≡ true) × (n ≡ at)) ⊎ (((n == at) ≡ false) × (n ≢ at)) → HasGoneOn (X n) (Y n)
-    go (inl (b, here)) = record { node = nodes n; grows = subst (λ m. IsEnd (X m).seen (Y m).seen) (sym here) (subst (λ m. IsEnd (X at).seen (Y m).seen) same grows) }
+    go (inl (b, here)) = record {
+      node = nodes n;
+      grows = subst (λ m. IsEnd (X m).seen (Y m).seen) (sym here) (subst (λ m. IsEnd (X at).seen (Y m).seen) same grows);
+    }
     go (inr (b, other)) = subst (λ y. HasGoneOn (X n) y) (sym (elsewhere n other)) (gone_same (X n))
 
 pub shards_gone : (I J : ℕ → Sight) → KeepNodes I J → ((s : ℕ) → IsEnd (I s).seen (J s).seen) → (s : ℕ) → HasGoneOn (I s) (J s)

@@ -1,5 +1,6 @@
 -- The lanes that are still open once one is resumed.
-use Rattle.std.proofs.Common.{◌≡◌, ◌≢◌, ℕ, suc, ◌+◌, ◌<◌, List, [], ◌∷◌, length, get_or, take, drop, length-take, length-drop, refl, arith, ap, ◌∙◌, sym, subst, add-one, drop-cons}
+use Rattle.std.proofs.Common.{◌≡◌, ◌≢◌, ℕ, suc, ◌+◌, ◌<◌, List, [], ◌∷◌, length, get_or, take, drop, length-take, length-drop, refl, arith, ap, ◌∙◌}
+use Rattle.std.proofs.Common.{sym, subst, add-one, drop-cons}
 use Rattle.std.specs.List.{All}
 use Rattle.std.proofs.lemmas.List.Elements.{All-nil, All-cons, All-head, All-tail}
 use Rattle.cbdc_types.specs.declared.batch.OpenLane.{OpenLane}
@@ -8,7 +9,8 @@ use Rattle.cbdc_model.specs.Slots.{Phase}
 use Rattle.lane_driver.specs.Told.{KeepsOtherLanes}
 use Rattle.recovery.specs.Open.{IsLaneOpen, LanesAbove, LanesRise}
 
-pub still_open : (h k : Header) (n : ℕ) (p q : ℕ → Phase) (t u : ℕ → List Compact) (o : OpenLane) → k ≡ h → KeepsOtherLanes h n p q t u → n < o.batch.lane → IsLaneOpen h p t o → IsLaneOpen k q u o
+pub still_open : (h k : Header) (n : ℕ) (p q : ℕ → Phase) (t u : ℕ → List Compact) (o : OpenLane) → k ≡ h → KeepsOtherLanes h n p q t u
+    → n < o.batch.lane → IsLaneOpen h p t o → IsLaneOpen k q u o
 still_open h k n p q t u o e keeps lt is =
     let other : o.batch.lane ≢ n = omega arith in
     let same = keeps o.batch.lane is.lane other in
@@ -23,7 +25,8 @@ still_open h k n p q t u o e keeps lt is =
       outcomes = is.outcomes;
     })
 
-all_still_open : (h k : Header) (n : ℕ) (p q : ℕ → Phase) (t u : ℕ → List Compact) (os : List OpenLane) → k ≡ h → KeepsOtherLanes h n p q t u → LanesAbove n os → All (IsLaneOpen h p t) os → All (IsLaneOpen k q u) os
+all_still_open : (h k : Header) (n : ℕ) (p q : ℕ → Phase) (t u : ℕ → List Compact) (os : List OpenLane) → k ≡ h → KeepsOtherLanes h n p q t u
+    → LanesAbove n os → All (IsLaneOpen h p t) os → All (IsLaneOpen k q u) os
 all_still_open h k n p q t u [] e keeps above all = All-nil (IsLaneOpen k q u)
 all_still_open h k n p q t u (o ∷ os) e keeps above all =
     All-cons (IsLaneOpen k q u) o os (still_open h k n p q t u o e keeps above.0 (All-head (IsLaneOpen h p t) o os all))
@@ -48,8 +51,10 @@ more_before os i x xs lt d = let n : length (take i os) ≡ suc (length xs) = ap
 pub rise_rest : (os : List OpenLane) (i : ℕ) (o : OpenLane) → i < length os → o ≡ get_or os i o → LanesRise (drop i os) → LanesRise (drop (i + 1) os)
 rise_rest os i o lt e rise = (subst LanesRise (split_rest os i o lt e) rise).1
 
-pub open_rest : (h k : Header) (p q : ℕ → Phase) (t u : ℕ → List Compact) (os : List OpenLane) (i : ℕ) (o : OpenLane) → i < length os → o ≡ get_or os i o
-    → LanesRise (drop i os) → All (IsLaneOpen h p t) (drop i os) → k ≡ h → (1 < length os → KeepsOtherLanes h o.batch.lane p q t u) → All (IsLaneOpen k q u) (drop (i + 1) os)
+pub open_rest : (h k : Header) (p q : ℕ → Phase) (t u : ℕ → List Compact) (os : List OpenLane) (i : ℕ) (o : OpenLane) → i < length os
+    → o ≡ get_or os i o
+    → LanesRise (drop i os) → All (IsLaneOpen h p t) (drop i os) → k ≡ h → (1 < length os → KeepsOtherLanes h o.batch.lane p q t u)
+    → All (IsLaneOpen k q u) (drop (i + 1) os)
 open_rest h k p q t u os i o lt e rise all same keeps = rest (drop (i + 1) os) refl
   where
     split : drop i os ≡ o ∷ drop (i + 1) os
@@ -60,4 +65,5 @@ open_rest h k p q t u os i o lt e rise all same keeps = rest (drop (i + 1) os) r
 
     rest : (xs : List OpenLane) → drop (i + 1) os ≡ xs → All (IsLaneOpen k q u) (drop (i + 1) os)
     rest [] d = let P : List OpenLane → Type 0 = λ ys. All (IsLaneOpen k q u) ys in subst P (sym d) (All-nil (IsLaneOpen k q u))
-    rest (x ∷ xs) d = all_still_open h k o.batch.lane p q t u (drop (i + 1) os) same (keeps (more_behind os i x xs d)) (subst LanesRise split rise).0 here
+    rest (x ∷ xs) d = all_still_open h k o.batch.lane p q t u (drop (i + 1) os) same (keeps (more_behind os i x xs d)) (subst LanesRise split rise).0
+        here

@@ -1,5 +1,6 @@
 -- A lane's turn leaves what is open of the other lanes as it stands.
-use Rattle.std.proofs.Common.{◌≡◌, ◌≢◌, inl, inr, ℕ, ◌+◌, ◌<◌, Bool, true, false, List, [], ◌∷◌, ◌++◌, length, get_or, drop, is_some, refl, sym, ap, ◌∙◌, subst, append_assoc, arith}
+use Rattle.std.proofs.Common.{◌≡◌, ◌≢◌, inl, inr, ℕ, ◌+◌, ◌<◌, Bool, true, false, List, [], ◌∷◌, ◌++◌, length, get_or, drop, is_some, refl, sym, ap}
+use Rattle.std.proofs.Common.{◌∙◌, subst, append_assoc, arith}
 use Rattle.std.proofs.lemmas.List.Elements.{All-nil, All-cons, All-head, All-tail}
 use Rattle.cbdc_types.specs.declared.batch.OpenLane.{OpenLane}
 use Rattle.cbdc_types.specs.declared.batch.Phase.{Phase as OpenPhase}
@@ -43,14 +44,16 @@ module _ (K : Shape) (pieces : List (List Compact)) (lane : ℕ) (X Y : ℕ → 
   own_from : (n other : ℕ) → other ≢ lane → (more newer : List Record) → Y n ≡ newer ++ (more ++ X n) → own other (more ++ X n) ≡ own other (X n)
   own_from n other apart [] newer e = refl
   own_from n other apart (r ∷ more) newer e =
-      own_out other r (more ++ X n) (other_lane lane other r apart (its_own n newer more r e)) ∙ own_from n other apart more (newer ++ r ∷ []) (e ∙ shifted newer more r (X n))
+      own_out other r (more ++ X n) (other_lane lane other r apart (its_own n newer more r e))
+      ∙ own_from n other apart more (newer ++ r ∷ []) (e ∙ shifted newer more r (X n))
 
   own_same : (n other : ℕ) → other ≢ lane → own other (Y n) ≡ own other (X n)
   own_same n other apart = ap (λ L. own other L) (made.grows n).1 ∙ own_from n other apart (made.grows n).0 [] (made.grows n).1
 
 -- ---- what stands of a batch is what its lane's own records say
 
-module _ (K : Shape) (b : Batch) (log log' : Sight) (I J : ℕ → Sight) (shape : log'.header.shape ≡ log.header.shape) (log_same : own b.lane log'.seen ≡ own b.lane log.seen)
+module _ (K : Shape) (b : Batch) (log log' : Sight) (I J : ℕ → Sight) (shape : log'.header.shape ≡ log.header.shape)
+    (log_same : own b.lane log'.seen ≡ own b.lane log.seen)
     (shard_same : (s : ℕ) → own b.lane (J s).seen ≡ own b.lane (I s).seen) where
   log_record : (kind : ℕ) → record_of kind log'.seen b ≡ record_of kind log.seen b
   log_record kind = same_record kind b.lane b log.seen log'.seen refl log_same
@@ -94,19 +97,25 @@ module _ (K : Shape) (b : Batch) (log log' : Sight) (I J : ℕ → Sight) (shape
         let z = same_slot (I s).seen (J s).seen (shard_same s) in
         let q = d.forgot s c (ap (λ x. x.number) (sym z) ∙ n) (ap (λ x. x.phase) (sym z) ∙ i) in (
           ap is_some (shard_record s 4) ∙ q.0,
-          ap stamp_in (shard_record s 4) ∙ q.1 ∙ stamp_own b.lane (I s).seen ∙ ap (λ L. slot_stamp L b.lane) (sym (shard_same s)) ∙ sym (stamp_own b.lane (J s).seen),
+          ap stamp_in (shard_record s 4) ∙ q.1 ∙ stamp_own b.lane (I s).seen ∙ ap (λ L. slot_stamp L b.lane) (sym (shard_same s))
+              ∙ sym (stamp_own b.lane (J s).seen),
         );
   }
 
-unfinished_on : (K : Shape) (o : OpenLane) (log log' : Sight) (I J : ℕ → Sight) → log'.header.shape ≡ log.header.shape → own o.batch.lane log'.seen ≡ own o.batch.lane log.seen
-    → ((s : ℕ) → own o.batch.lane (J s).seen ≡ own o.batch.lane (I s).seen) → (p : OpenPhase) → IsBatchUnfinished p K o log I → IsBatchUnfinished p K o log' J
+unfinished_on : (K : Shape) (o : OpenLane) (log log' : Sight) (I J : ℕ → Sight) → log'.header.shape ≡ log.header.shape
+    → own o.batch.lane log'.seen ≡ own o.batch.lane log.seen
+    → ((s : ℕ) → own o.batch.lane (J s).seen ≡ own o.batch.lane (I s).seen) → (p : OpenPhase) → IsBatchUnfinished p K o log I
+    → IsBatchUnfinished p K o log' J
 unfinished_on K o log log' I J shape log_same shard_same Prepared h = prepared_on K o.batch log log' I J shape log_same shard_same o.txs o.stamp h
-unfinished_on K o log log' I J shape log_same shard_same Committed h = (h.0, committed_on K o.batch log log' I J shape log_same shard_same o.txs h.0 o.stamp o.outcomes h.1)
-unfinished_on K o log log' I J shape log_same shard_same Discarded h = (h.0, discarded_on K o.batch log log' I J shape log_same shard_same o.txs h.0 o.stamp h.1)
+unfinished_on K o log log' I J shape log_same shard_same Committed h =
+    (h.0, committed_on K o.batch log log' I J shape log_same shard_same o.txs h.0 o.stamp o.outcomes h.1)
+unfinished_on K o log log' I J shape log_same shard_same Discarded h =
+    (h.0, discarded_on K o.batch log log' I J shape log_same shard_same o.txs h.0 o.stamp h.1)
 
 -- ---- behind the turn of another lane
 
-module _ (K : Shape) (b : Batch) (log log' : Sight) (I J : ℕ → Sight) (home : home_of K b.lane < K.coordinators) (shape : log'.header.shape ≡ log.header.shape)
+module _ (K : Shape) (b : Batch) (log log' : Sight) (I J : ℕ → Sight) (home : home_of K b.lane < K.coordinators)
+    (shape : log'.header.shape ≡ log.header.shape)
     (made : Made K [] true b.lane (view K b.lane log I) (view K b.lane log' J)) where
   untouched : (o : OpenLane) → b.lane < o.batch.lane → IsBatchUnfinished o.phase K o log I → IsBatchUnfinished o.phase K o log' J
   untouched o above h = unfinished_on K o log log' I J shape at_log at_shard o.phase h
@@ -132,28 +141,37 @@ module _ (K : Shape) (b : Batch) (log log' : Sight) (I J : ℕ → Sight) (home 
 
 -- ---- along the list
 
-pub stands_here : (K : Shape) (log : Sight) (I : ℕ → Sight) (os : List OpenLane) (i : ℕ) (o : OpenLane) → i < length os → o ≡ get_or os i o → AreUnfinished K (drop i os) log I → IsBatchUnfinished o.phase K o log I
+pub stands_here : (K : Shape) (log : Sight) (I : ℕ → Sight) (os : List OpenLane) (i : ℕ) (o : OpenLane) → i < length os → o ≡ get_or os i o
+    → AreUnfinished K (drop i os) log I → IsBatchUnfinished o.phase K o log I
 stands_here K log I os i o lt e all =
     let P : List OpenLane → Type 0 = λ xs. AreUnfinished K xs log I in
     All-head (λ o. IsBatchUnfinished o.phase K o log I) o (drop (i + 1) os) (subst P (split_rest os i o lt e) all)
 
 -- where there is more than one, no other lane writes meanwhile
-pub stand_rest : (K : Shape) (alone : Bool) (log log' : Sight) (I J : ℕ → Sight) (os : List OpenLane) (i : ℕ) (o : OpenLane) → (1 < length os → alone ≡ true) → i < length os → o ≡ get_or os i o → LanesRise (drop i os)
-    → home_of K o.batch.lane < K.coordinators → log'.header.shape ≡ log.header.shape → Made K [] alone o.batch.lane (view K o.batch.lane log I) (view K o.batch.lane log' J) → AreUnfinished K (drop i os) log I → AreUnfinished K (drop (i + 1) os) log' J
+pub stand_rest : (K : Shape) (alone : Bool) (log log' : Sight) (I J : ℕ → Sight) (os : List OpenLane) (i : ℕ) (o : OpenLane)
+    → (1 < length os → alone ≡ true) → i < length os → o ≡ get_or os i o → LanesRise (drop i os)
+    → home_of K o.batch.lane < K.coordinators → log'.header.shape ≡ log.header.shape
+    → Made K [] alone o.batch.lane (view K o.batch.lane log I) (view K o.batch.lane log' J) → AreUnfinished K (drop i os) log I
+    → AreUnfinished K (drop (i + 1) os) log' J
 stand_rest K alone log log' I J os i o quiet lt e rise home shape made all = rest (drop (i + 1) os) refl
   where
     split : drop i os ≡ o ∷ drop (i + 1) os
     split = split_rest os i o lt e
 
     here : AreUnfinished K (drop (i + 1) os) log I
-    here = let P : List OpenLane → Type 0 = λ xs. AreUnfinished K xs log I in All-tail (λ o. IsBatchUnfinished o.phase K o log I) o (drop (i + 1) os) (subst P split all)
+    here = let P : List OpenLane → Type 0 = λ xs. AreUnfinished K xs log I in
+        All-tail (λ o. IsBatchUnfinished o.phase K o log I) o (drop (i + 1) os) (subst P split all)
 
     rest : (xs : List OpenLane) → drop (i + 1) os ≡ xs → AreUnfinished K (drop (i + 1) os) log' J
-    rest [] d = let P : List OpenLane → Type 0 = λ ys. AreUnfinished K ys log' J in subst P (sym d) (All-nil (λ o. IsBatchUnfinished o.phase K o log' J))
-    rest (x ∷ xs) d = all_untouched K o.batch log log' I J home shape (subst (λ a. Made K [] a o.batch.lane (view K o.batch.lane log I) (view K o.batch.lane log' J)) (quiet (more_behind os i x xs d)) made) (drop (i + 1) os) (subst LanesRise split rise).0 here
+    rest [] d = let P : List OpenLane → Type 0 = λ ys. AreUnfinished K ys log' J in
+        subst P (sym d) (All-nil (λ o. IsBatchUnfinished o.phase K o log' J))
+    rest (x ∷ xs) d = all_untouched K o.batch log log' I J home shape
+        (subst (λ a. Made K [] a o.batch.lane (view K o.batch.lane log I) (view K o.batch.lane log' J)) (quiet (more_behind os i x xs d)) made)
+        (drop (i + 1) os) (subst LanesRise split rise).0 here
 
 -- where its coordinator is, by what stands of it
-pub home_there : (K : Shape) (o : OpenLane) (log : Sight) (I : ℕ → Sight) (p : OpenPhase) → IsBatchUnfinished p K o log I → home_of K o.batch.lane < K.coordinators
+pub home_there : (K : Shape) (o : OpenLane) (log : Sight) (I : ℕ → Sight) (p : OpenPhase) → IsBatchUnfinished p K o log I
+    → home_of K o.batch.lane < K.coordinators
 home_there K o log I Prepared h = h.is_open.home
 home_there K o log I Committed h = h.1.is_open.home
 home_there K o log I Discarded h = h.1.is_open.home

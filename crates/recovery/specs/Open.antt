@@ -102,7 +102,8 @@ HasItsOutcomes Discarded o J r = r.outcomes ≡ o.outcomes
 
 -- it stopped at a node's fault
 abbrev pub IsResumeStopped : Shape → Bool → OpenLane → Sight → (ℕ → Sight) → Sight → (ℕ → Sight) → LaneFault → Type 0
-IsResumeStopped K alone o log I log' J e = IsBatchUnfinished o.phase K o log I → (n : ℕ) × (f : NodeFault) × IsLaneFaultOf e n f × IsLeft K alone o.batch log I log' J n f
+IsResumeStopped K alone o log I log' J e = IsBatchUnfinished o.phase K o log I
+    → (n : ℕ) × (f : NodeFault) × IsLaneFaultOf e n f × IsLeft K alone o.batch log I log' J n f
 
 -- what was told of it, call by call, from the phase on in which it stood: each concerned shard of a phase answered as it does (a lock with `Memory`
 -- maybe unasked), and where one of them did not do what it was asked, the least such shard's fault is this
@@ -115,7 +116,8 @@ IsToldFrom Discarded K alone o parts old new n f =
 
 -- it was prepared, and memory ran out at the Lock of this shard, with nothing asked behind the Locks
 abbrev pub TakesAtLock : Shape → Bool → OpenLane → List (ℕ × List Entry) → LaneSights → LaneSights → ℕ → Type 0
-TakesAtLock K alone o parts old new node = (o.phase ≡ Prepared) × IsLockWant K alone o.batch o.stamp parts old.home new.home old.shards new.shards node
+TakesAtLock K alone o parts old new node = (o.phase ≡ Prepared)
+    × IsLockWant K alone o.batch o.stamp parts old.home new.home old.shards new.shards node
 
 -- it stood open, cut into its parts, and stopped at a call, with the answer of the node that was called
 pub record IsResumeStop (K : Shape) (alone : Bool) (o : OpenLane) (old new : LaneSights) (e : LaneFault) : Type 0 where
@@ -127,7 +129,8 @@ pub record IsResumeStop (K : Shape) (alone : Bool) (o : OpenLane) (old new : Lan
   pub stopped : IsStop K new (IsToldFrom o.phase K alone o parts old new) (TakesAtLock K alone o parts old new) stop
 
 -- the open batch was taken to its end, and it is told with the phase in which it stood and its outcomes
-pub record IsOneTaken (K : Shape) (alone : Bool) (o : OpenLane) (log : Sight) (I : ℕ → Sight) (log' : Sight) (J : ℕ → Sight) (r : ResumedBatch) : Type 0 where
+pub record IsOneTaken (K : Shape) (alone : Bool) (o : OpenLane) (log : Sight) (I : ℕ → Sight) (log' : Sight) (J : ℕ → Sight) (r : ResumedBatch) :
+    Type 0 where
   pub taken : IsTakenUp K alone o.batch log I log' J
   pub resumed : IsBatchResumed o r
   pub outcomes : HasItsOutcomes o.phase o log'.seen r
@@ -200,7 +203,8 @@ pub record WasCaused (K : Shape) (logs shards : ℕ → Sight) (e : LaneFault) :
 pub record KeepsListedPorts {S L G : Type 0} (log : LogGhosts L) (set : SetGhosts S G) (os : List OpenLane) (old new : Ports S L) : Type 0 where
   pub to_log : KeepsLog log.at log.header log.count log.sights log.faults log.holds old.log new.log
   pub to_shards : KeepsShards set.count set.sights set.faults set.holds set.serves old.shards new.shards
-  pub others : log.alone ≡ true → KeepsUnlisted (log.header old.log) os (log.phase old.log) (log.phase new.log) (log.open_txs old.log) (log.open_txs new.log)
+  pub others : log.alone ≡ true → KeepsUnlisted (log.header old.log) os (log.phase old.log) (log.phase new.log) (log.open_txs old.log)
+      (log.open_txs new.log)
 
 -- a lane's batch is kept behind those before it, or its fault, where none came before
 abbrev pub KeepsResumed : List ResumedBatch → Option LaneFault → Result ResumedBatch LaneFault → List ResumedBatch → Option LaneFault → Type 0

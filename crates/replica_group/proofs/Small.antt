@@ -1,5 +1,6 @@
 -- What keeps a group small: who is in it stays, or a promotion.
-use Rattle.std.proofs.Common.{◌≡◌, inl, inr, ℕ, zero, suc, ◌+◌, ◌<◌, ◌≤◌, true, false, List, [], ◌∷◌, ◌++◌, length, take, drop, replicate, get_or, set, get_or-set_same, get_or-set_other, refl, sym, ap, ◌∙◌, subst, arith, take_all}
+use Rattle.std.proofs.Common.{◌≡◌, inl, inr, ℕ, zero, suc, ◌+◌, ◌<◌, ◌≤◌, true, false, List, [], ◌∷◌, ◌++◌, length, take, drop, replicate, get_or}
+use Rattle.std.proofs.Common.{set, get_or-set_same, get_or-set_other, refl, sym, ap, ◌∙◌, subst, arith, take_all}
 use Rattle.std.proofs.lemmas.List.{length-set, length-replicate, get_or-replicate, take-append-le}
 use Rattle.std.proofs.lemmas.Bool.{cases_eq}
 use Rattle.shard_replica.specs.Groups.{Member, no_member}
@@ -40,8 +41,10 @@ small_led primary term known now b ms left led s few here ne gone in_after =
     let low : b < length ms = inside_in ms b here in
     let lower : b < length one = omega arith in
     let stays : (get_or one b no_member).inside ≡ true = ap (λ x. x.inside) (get_or-set_other ms primary b left no_member ne) ∙ here in
-    let first : inside_count one + one_if (get_or ms primary no_member).inside ≡ inside_count ms + one_if left.inside = inside_count-set ms primary left s.is_there in
-    let second : inside_count (set one b led) + one_if (get_or one b no_member).inside ≡ inside_count one + one_if led.inside = inside_count-set one b led lower in
+    let first : inside_count one + one_if (get_or ms primary no_member).inside ≡ inside_count ms + one_if left.inside =
+    inside_count-set ms primary left s.is_there in
+    let second : inside_count (set one b led) + one_if (get_or one b no_member).inside ≡ inside_count one + one_if led.inside =
+    inside_count-set one b led lower in
     let was : one_if (get_or ms primary no_member).inside ≡ 1 = ap one_if s.is_inside in
     let left_none : one_if left.inside ≡ 0 = ap one_if gone in
     let was_there : one_if (get_or one b no_member).inside ≡ 1 = ap one_if stays in
@@ -84,7 +87,8 @@ inside_count-replicate : (n : ℕ) (m : Member) → m.inside ≡ true → inside
 inside_count-replicate zero m e = refl
 inside_count-replicate (suc n) m e = let one : one_if m.inside ≡ 1 = ap one_if e in omega (arith, one, inside_count-replicate n m e)
 
-pub small_begun : (n known : ℕ) (m : Member) (ms : List Member) → ms ≡ replicate n m → m.inside ≡ true → 0 < n → n ≤ 4 → known ≤ 4 → IsSmall 0 1 ms known
+pub small_begun : (n known : ℕ) (m : Member) (ms : List Member) → ms ≡ replicate n m → m.inside ≡ true → 0 < n → n ≤ 4 → known ≤ 4
+    → IsSmall 0 1 ms known
 small_begun n known m ms is e some few low = subst (λ xs. IsSmall 0 1 xs known) (sym is)
     (let l : length (replicate n m) ≡ n = length-replicate n m in
     record {

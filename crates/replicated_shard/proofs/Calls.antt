@@ -1,5 +1,6 @@
 -- A shard's call as a list of a group's steps.
-use Rattle.std.proofs.Common.{◌≡◌, inl, inr, ℕ, ◌+◌, ◌-◌, ◌<◌, ◌≤◌, Bool, true, false, List, [], ◌∷◌, length, map, reverse, Option, Some, None, IfSome, Result, Ok, Err, slice_get, refl, sym, ap, ◌∙◌, subst, arith}
+use Rattle.std.proofs.Common.{◌≡◌, inl, inr, ℕ, ◌+◌, ◌-◌, ◌<◌, ◌≤◌, Bool, true, false, List, [], ◌∷◌, length, map, reverse, Option, Some, None}
+use Rattle.std.proofs.Common.{IfSome, Result, Ok, Err, slice_get, refl, sym, ap, ◌∙◌, subst, arith}
 use Rattle.std.proofs.lemmas.List.{reverse-append, reverse-reverse, length-reverse}
 use Rattle.cbdc_types.specs.declared.calls.NodeFault.{NodeFault}
 use Rattle.cbdc_types.specs.declared.calls.NodeFault.TheVariants.{Broken, Refused as Refuses, ClockEnd, Full, DiskFault, Memory}
@@ -25,15 +26,18 @@ use Rattle.std.proofs.lemmas.Option.{slice_get_within}
 use Rattle.shard_replica.specs.Groups.{Group}
 
 -- a call that writes nothing
-stays : (h : Header) (backups : ℕ) (was now : List Record) (flying flight : Option Record) → now ≡ was → flight ≡ flying → GoesBySteps h backups was flying now flight
+stays : (h : Header) (backups : ℕ) (was now : List Record) (flying flight : Option Record) → now ≡ was → flight ≡ flying
+    → GoesBySteps h backups was flying now flight
 stays h backups was now flying flight e f =
     λ g s. ([], g, inl refl, refl, subst (λ J. StandsFor h backups J flight g) (sym e) (subst (λ o. StandsFor h backups was o g) (sym f) s))
 
 -- a record that is written goes round
-appends : (h : Header) (backups : ℕ) (was : List Record) (r : Record) → IsJournal h was → IsJournal h (r ∷ was) → GoesBySteps h backups was None (r ∷ was) None
+appends : (h : Header) (backups : ℕ) (was : List Record) (r : Record) → IsJournal h was → IsJournal h (r ∷ was)
+    → GoesBySteps h backups was None (r ∷ was) None
 appends h backups [] r w n = absurd w
 appends h backups (q ∷ past) r w n = λ g s.
-    let some : 1 ≤ length (reverse (q ∷ past)) = (let l : length (reverse (q ∷ past)) ≡ length (q ∷ past) = length-reverse (q ∷ past) in omega (arith, l)) in
+    let some : 1 ≤ length (reverse (q ∷ past)) = (let l : length (reverse (q ∷ past)) ≡ length (q ∷ past) = length-reverse (q ∷ past) in
+    omega (arith, l)) in
     let k = round_law h backups (reverse (q ∷ past)) r g some s (subst (λ J. After h J r) (sym (reverse-reverse (q ∷ past))) n.0) in
     (round backups g r, k.0, inr (inl (r, refl)), k.1, subst (λ xs. IsAtRest h backups xs k.0) (sym (reverse-append (r ∷ []) (q ∷ past))) k.2)
 
@@ -53,8 +57,10 @@ pub owes_whole : {A : Type 0} (o : Option ℕ) (due : Due A) (a : A) (r : Record
 owes_whole None due a r e = refl
 owes_whole (Some since) due a r e = absurd (let z : Answers (Err (Broken since)) ≡ Writes a r = e in cc)
 
-module _ (A : Type 0) (D : Type 0) (due : Due A) (old new : NodeOf D) (backups : ℕ) (header : new.header ≡ old.header) (was : IsJournal old.header old.journal)
-    (now : IsJournal new.header new.journal) (flying : IfSome new.flight (After new.header new.journal)) (quiet : (a : A) (r : Record) → due ≡ Writes a r → old.flight ≡ None) where
+module _ (A : Type 0) (D : Type 0) (due : Due A) (old new : NodeOf D) (backups : ℕ) (header : new.header ≡ old.header)
+    (was : IsJournal old.header old.journal)
+    (now : IsJournal new.header new.journal) (flying : IfSome new.flight (After new.header new.journal))
+    (quiet : (a : A) (r : Record) → due ≡ Writes a r → old.flight ≡ None) where
   abbrev Goes : Type 0
   Goes = GoesBySteps old.header backups old.journal old.flight new.journal new.flight
 
@@ -98,9 +104,11 @@ module _ {A D : Type 0} (device : Ghosts D) (memory : Bool) (due : Due A) (old n
       go true e = new.disk.blamed e
       go false e = absurd (let none : new.disk.refused ≡ 0 = new.disk.whole e in omega (arith, some, none))
 
-  pub member_failed : (result : Result A NodeFault) → HasAnswered (mirrored device) memory due old new result → result ≡ Err DiskFault → MemberFailed device old new
+  pub member_failed : (result : Result A NodeFault) → HasAnswered (mirrored device) memory due old new result → result ≡ Err DiskFault
+      → MemberFailed device old new
   member_failed result a e =
-      let m : MeetsFault memory due (sight old) (sight new) old.journal DiskFault = subst (λ r. Meets memory due (sight old) (sight new) old.journal r) e a.meets in
+      let m : MeetsFault memory due (sight old) (sight new) old.journal DiskFault =
+      subst (λ r. Meets memory due (sight old) (sight new) old.journal r) e a.meets in
       let rose : HasRisen old.faults new.faults = m.3.rose in
       record {
         record_in_flight = m.1;

@@ -30,7 +30,8 @@ AreCallSteps backups g events = (events ≡ []) ⊎ ((r : Record) × (events ≡
 -- from a group that stands for a node, the steps of a call lead to one that stands for the node behind it
 abbrev pub GoesBySteps : Header → ℕ → List Record → Option Record → List Record → Option Record → Type 0
 GoesBySteps h backups was flying now flight =
-    (g : Group) → StandsFor h backups was flying g → (events : List GroupEvent) × (k : Group) × AreCallSteps backups g events × Run g events k × StandsFor h backups now flight k
+    (g : Group) → StandsFor h backups was flying g
+    → (events : List GroupEvent) × (k : Group) × AreCallSteps backups g events × Run g events k × StandsFor h backups now flight k
 
 -- a shard over a mirror
 abbrev pub GroupNode : {D : Type 0} → Ghosts D → Type 0
@@ -51,11 +52,13 @@ pub record MemberFailed {D : Type 0} (device : Ghosts D) (old new : GroupNode de
 
 -- a call at a shard that is a group: it is answered as the shard alone would answer it, by the room of the primary's disk; for however many backups it
 -- is a list of the group's steps; each member's disk holds the journal behind it; and a fault of the disk is a member's
-pub record AnswersAsGroup {D A : Type 0} (device : Ghosts D) (memory : Bool) (due : Due A) (old new : GroupNode device) (result : Result A NodeFault) : Type 0 where
+pub record AnswersAsGroup {D A : Type 0} (device : Ghosts D) (memory : Bool) (due : Due A) (old new : GroupNode device) (result : Result A NodeFault)
+    : Type 0 where
   pub answered : HasAnswered (mirrored device) memory due old new result
   pub room : old.capacity ≡ first_of (map device.limit old.disk.disks.items)
   pub steps : (backups : ℕ) → GoesBySteps old.header backups old.journal old.flight new.journal new.flight
   pub members : HoldsJournal (mirrored device) old → EachHolds device new
-  pub lists : HoldsJournal (mirrored device) old → new.flight ≡ None → (g : Group) → IsAtRest new.header (length new.disk.disks.items - 1) (reverse new.journal) g
+  pub lists : HoldsJournal (mirrored device) old → new.flight ≡ None → (g : Group)
+      → IsAtRest new.header (length new.disk.disks.items - 1) (reverse new.journal) g
       → (k : ℕ) (d : D) → slice_get new.disk.disks.items k ≡ Some d → (c : List ℕ) → device.images d c → OpensTo (member_at g k).records c
   pub failed : result ≡ Err DiskFault → MemberFailed device old new

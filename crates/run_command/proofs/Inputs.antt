@@ -17,7 +17,8 @@ module _ (held : Text → Option (List ℕ)) (before now : Text → ℕ) (client
   abbrev rose : ℕ → Type 0
   rose = RunRose before now verdicts clients
 
-  verdicts_fault : (a : Answer) → IsNoVerdicts verdicts.place (held verdicts.name.now) (before verdicts.name.now) (now verdicts.name.now) a → IsReadOrNodeFault named rose a
+  verdicts_fault : (a : Answer) → IsNoVerdicts verdicts.place (held verdicts.name.now) (before verdicts.name.now) (now verdicts.name.now) a
+      → IsReadOrNodeFault named rose a
   verdicts_fault answers.Ok is = absurd is
   verdicts_fault answers.BadWords is = absurd is
   verdicts_fault (answers.BadInput file at kind) is = inr is.0
@@ -34,7 +35,8 @@ module _ (held : Text → Option (List ℕ)) (before now : Text → ℕ) (client
   verdicts_fault (answers.DiskFault k) is = absurd is
   verdicts_fault answers.Memory is = tt
 
-  pub no_inputs_fault : (a : Answer) → AreNoInputs held before now clients verdicts a → IsReadOrNodeFault (RunPlace verdicts clients) (RunRose before now verdicts clients) a
+  pub no_inputs_fault : (a : Answer) → AreNoInputs held before now clients verdicts a
+      → IsReadOrNodeFault (RunPlace verdicts clients) (RunRose before now verdicts clients) a
   no_inputs_fault a are = elim are [
     | inl first ↦ first_fault held before now clients named rose (λ place one. inl one) (λ place one. inl one) a first
     | inr all ↦ verdicts_fault a all.2

@@ -21,8 +21,10 @@ use Rattle.run_command.specs.Outcomes.{DidRun, PrintsRun, WasRun}
 use Rattle.run_lines.specs.Told.{IsCountable, ran_text}
 use Rattle.run_lines.proofs.Numbers.{lanes_there, run_text, countable}
 
-pub prints_run : {D : Type 0} (device : Ghosts D) (before now : ℕ → Option D) (printed : Text → Type 0) (verdicts : VerdictsOf) (files : List (List FullTx)) (ran : Ran) → all_txs files ≤ 1000000
-    → OfShown device before (IsRunTold device now verdicts files ran) → (IsCountable ran → printed (ran_text ran)) → PrintsRun device before now printed verdicts files
+pub prints_run : {D : Type 0} (device : Ghosts D) (before now : ℕ → Option D) (printed : Text → Type 0) (verdicts : VerdictsOf)
+    (files : List (List FullTx)) (ran : Ran) → all_txs files ≤ 1000000
+    → OfShown device before (IsRunTold device now verdicts files ran) → (IsCountable ran → printed (ran_text ran))
+    → PrintsRun device before now printed verdicts files
 prints_run device before now printed verdicts files ran few shown is K mint submissions E within shows kept =
     let told = shown K mint submissions E within shows kept in
     let tests = is_sound_law verdicts in
@@ -30,14 +32,19 @@ prints_run device before now printed verdicts files ran few shown is K mint subm
     record {
       run = told.run;
       text = ran_text ran;
-      lines = let t = run_text K verdicts files few within E told.run.exit ran told.tells (sound_by verdicts) tests in record { all = t.0; are = t.1.0; unspent = ran.unspent; counted = told.unspent; text_is = t.1.1 };
+      lines = let t = run_text K verdicts files few within E told.run.exit ran told.tells (sound_by verdicts) tests in
+          record { all = t.0; are = t.1.0; unspent = ran.unspent; counted = told.unspent; text_is = t.1.1 };
       prints = is (countable K verdicts files few within E told.run.exit ran told.tells (sound_by verdicts) tests);
-      settled = settled_law K mint (submissions ++ joined files) verdicts files E told.run.exit within.some_shard (lanes_there K within) more told.run.grown.kept told.run.waves;
-      free = free_confirmed_law K mint (submissions ++ joined files) verdicts files E told.run.exit within.some_shard (lanes_there K within) more told.run.grown.kept;
+      settled = settled_law K mint (submissions ++ joined files) verdicts files E told.run.exit within.some_shard (lanes_there K within) more
+          told.run.grown.kept told.run.waves;
+      free = free_confirmed_law K mint (submissions ++ joined files) verdicts files E told.run.exit within.some_shard (lanes_there K within) more
+          told.run.grown.kept;
     }
 
-pub did_run : {D : Type 0} (device : Ghosts D) (files : Text → Option (List ℕ)) (before after : Disks D) (printed : Text → Type 0) (verdicts : FileWord) (clients : List FileWord) (ran : Ran)
-    → WasRun device files before after verdicts clients ran → (IsCountable ran → printed (ran_text ran)) → DidRun device files before after printed verdicts clients
+pub did_run : {D : Type 0} (device : Ghosts D) (files : Text → Option (List ℕ)) (before after : Disks D) (printed : Text → Type 0)
+    (verdicts : FileWord) (clients : List FileWord) (ran : Ran)
+    → WasRun device files before after verdicts clients ran → (IsCountable ran → printed (ran_text ran))
+    → DidRun device files before after printed verdicts clients
 did_run device files before after printed verdicts clients ran was is = record {
   handed = was.handed;
   known = was.known;

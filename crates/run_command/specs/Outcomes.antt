@@ -38,7 +38,8 @@ pub record WasRun {D : Type 0} (device : Ghosts D) (files : Text → Option (Lis
   pub tells : OfShown device before.held (IsRunTold device after.held (file_verdict known) handed ran)
 
 -- a run of these transactions over a kept ledger, which was printed
-pub record IsPrintedRun {D : Type 0} (device : Ghosts D) (now : ℕ → Option D) (printed : Text → Type 0) (verdicts : VerdictsOf) (handed : List (List FullTx))
+pub record IsPrintedRun {D : Type 0} (device : Ghosts D) (now : ℕ → Option D) (printed : Text → Type 0) (verdicts : VerdictsOf)
+    (handed : List (List FullTx))
     (K : Shape) (mint : List Output) (submissions : List FullTx) (E : ℕ → List Record) : Type 0 where
   pub run : IsRun device now verdicts handed K mint submissions E
   -- the lines are those of this run, from the journals at entry to those at its exit, which the disks hold now

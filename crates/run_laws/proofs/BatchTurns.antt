@@ -41,7 +41,8 @@ own_head lane (q ∷ J) r rest e = elim (is_in_lane lane q) as (λ t. is_in_lane
     head_is q r A B e = cc
 
 -- the head of what the lane has newly tells its lane and number
-pub done_number : (lane k stamp : ℕ) (b : Batch) (rest J : List Record) → own lane J ≡ Done stamp b ∷ rest → (slot J lane).number ≡ k → (b.lane ≡ lane) × (b.number ≡ k)
+pub done_number : (lane k stamp : ℕ) (b : Batch) (rest J : List Record) → own lane J ≡ Done stamp b ∷ rest → (slot J lane).number ≡ k
+    → (b.lane ≡ lane) × (b.number ≡ k)
 done_number lane k stamp b rest J e n =
     let l : (b.lane == lane) ≡ true = own_head lane J (Done stamp b) rest e in
     let here : (slot (Done stamp b ∷ rest) lane).number ≡ b.number = rw l in
@@ -59,12 +60,14 @@ pub open_turn_law : OpenTurnLaw
 open_turn_law K mint submissions lane logs shards logs' shards' some home kept kept' turn =
     subst (λ L. Adds (λ c. c ≡ open_batch L lane) (seen_by K logs shards) (seen_by K logs' shards')) (seen_log K logs shards (home_of K lane) home)
     (open_adds K (minted mint) (IsProperCompact submissions) some kept.later kept'.later
-    (steady K (minted mint) (IsProperCompact submissions) kept.later kept.kept) (steady K (minted mint) (IsProperCompact submissions) kept'.later kept'.kept) lane home
+    (steady K (minted mint) (IsProperCompact submissions) kept.later kept.kept)
+    (steady K (minted mint) (IsProperCompact submissions) kept'.later kept'.kept) lane home
     (seen_by K logs shards) (seen_by K logs' shards') kept.history.journals_are kept'.history.journals_are
     (lifted K [] lane logs shards logs' shards' home turn))
 
 -- the open batch of a lane that is not idle is prepared and not done
-module _ (K : Shape) (minting : Minted) (P : Compact → Type 0) (some : 0 < K.shards) (later : List Row) (kept : Steady K minting P later) (lane : ℕ) (home : home_of K lane < K.coordinators) where
+module _ (K : Shape) (minting : Minted) (P : Compact → Type 0) (some : 0 < K.shards) (later : List Row) (kept : Steady K minting P later) (lane : ℕ)
+    (home : home_of K lane < K.coordinators) where
   abbrev H : List Record
   H = journal (home_of K lane) (later ++ first_rows K minting)
 
@@ -108,6 +111,8 @@ resumed_turn_law K mint submissions lane logs shards logs' shards' some home els
 
     stands : (is_some (record_of 6 (logs (home_of K lane)).seen b) ≡ true) × (is_some (record_of 9 (logs (home_of K lane)).seen b) ≡ false)
     stands =
-        subst (λ L. (p : Phase) → (slot L lane).phase ≡ p → (p ≡ Idle → ⊥) → (is_some (record_of 6 L (open_batch L lane)) ≡ true) × (is_some (record_of 9 L (open_batch L lane)) ≡ false)) at_home
-        (open_stands K (minted mint) (IsProperCompact submissions) some kept.later (steady K (minted mint) (IsProperCompact submissions) kept.later kept.kept) lane home)
+        subst (λ L. (p : Phase) → (slot L lane).phase ≡ p → (p ≡ Idle → ⊥)
+        → (is_some (record_of 6 L (open_batch L lane)) ≡ true) × (is_some (record_of 9 L (open_batch L lane)) ≡ false)) at_home
+        (open_stands K (minted mint) (IsProperCompact submissions) some kept.later
+        (steady K (minted mint) (IsProperCompact submissions) kept.later kept.kept) lane home)
         (slot (logs (home_of K lane)).seen lane).phase refl busy

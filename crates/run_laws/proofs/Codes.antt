@@ -6,7 +6,8 @@ use Rattle.cbdc_model.specs.Records.{Shape}
 
 -- the place of a record of a kind at a node among those of its batch
 abbrev pub place_of : Shape → ℕ → ℕ → ℕ
-place_of K node kind = if kind == 3 then node - K.coordinators else if kind == 4 then K.shards + (node - K.coordinators) else 2 * K.shards + (kind - 7)
+place_of K node kind = if kind == 3 then node - K.coordinators else if kind == 4 then K.shards + (node - K.coordinators)
+    else 2 * K.shards + (kind - 7)
 
 abbrev pub code_of : Shape → ℕ → ℕ → ℕ → ℕ
 code_of K lane node kind = lane * (2 * K.shards + 3) + place_of K node kind
@@ -39,7 +40,8 @@ place_below c s home node kind (finish le lt e) = omega (arith, finish_place c s
 place_below c s home node kind (forget le lt e) = omega (arith, forget_place c s node kind e)
 place_below c s home node kind (others e le lt) = omega (arith, others_place c s node kind le)
 
-place_tells : (c s home node kind other k : ℕ) → Placed c s home node kind → Placed c s home other k → place c s node kind ≡ place c s other k → (node ≡ other) × (kind ≡ k)
+place_tells : (c s home node kind other k : ℕ) → Placed c s home node kind → Placed c s home other k → place c s node kind ≡ place c s other k
+    → (node ≡ other) × (kind ≡ k)
 place_tells c s home node kind other k (finish a b d) (finish x y z) e =
     let p = finish_place c s node kind d in let q = finish_place c s other k z in (omega arith, omega arith)
 place_tells c s home node kind other k (finish a b d) (forget x y z) e =
@@ -76,7 +78,8 @@ pub record SamePlace (lane node kind other n k : ℕ) : Type 0 where
   pub nodes : node ≡ n
   pub kinds : kind ≡ k
 
-pub code_tells : (K : Shape) (lane node kind other n k : ℕ) → IsPlaced K lane node kind → IsPlaced K other n k → code_of K lane node kind ≡ code_of K other n k
+pub code_tells : (K : Shape) (lane node kind other n k : ℕ) → IsPlaced K lane node kind → IsPlaced K other n k
+    → code_of K lane node kind ≡ code_of K other n k
     → SamePlace lane node kind other n k
 code_tells K lane node kind other n k p q e =
     let l = code_tells_lane (2 * K.shards + 3) lane other (place_of K node kind) (place_of K n k)

@@ -25,6 +25,8 @@ end_law K mint submissions logs shards some lanes clean kept idle =
     low : (n : ℕ) → n < K.coordinators → nat_lt n K.coordinators ≡ true
     low n lt = grind (arith, lt)
 
-    at_home : (lane : ℕ) → lane < K.coordinators * K.lanes → home_of K lane < K.coordinators → (slot (seen_by K logs shards (home_of K lane)) lane).phase ≡ Idle
+    at_home : (lane : ℕ) → lane < K.coordinators * K.lanes → home_of K lane < K.coordinators
+        → (slot (seen_by K logs shards (home_of K lane)) lane).phase ≡ Idle
     at_home lane lt below =
-        ap (λ t. (slot (if t then (logs (home_of K lane)).seen else (shards (home_of K lane - K.coordinators)).seen) lane).phase) (low (home_of K lane) below) ∙ idle lane lt
+        ap (λ t. (slot (if t then (logs (home_of K lane)).seen else (shards (home_of K lane - K.coordinators)).seen) lane).phase)
+        (low (home_of K lane) below) ∙ idle lane lt

@@ -1,12 +1,14 @@
 -- The records with stamps above 2^62 have codes of their own, so they are few.
-use Rattle.std.proofs.Common.{◌≡◌, inl, inr, ℕ, suc, ◌+◌, ◌*◌, ◌^◌, ◌<◌, ◌≤◌, Bool, true, false, ◌&&◌, ◌||◌, ◌==◌, if◌then◌else◌, List, [], ◌∷◌, ◌++◌, length, Some, None, is_some, refl, sym, ap, ◌∙◌, subst, arith}
+use Rattle.std.proofs.Common.{◌≡◌, inl, inr, ℕ, suc, ◌+◌, ◌*◌, ◌^◌, ◌<◌, ◌≤◌, Bool, true, false, ◌&&◌, ◌||◌, ◌==◌, if◌then◌else◌, List, [], ◌∷◌, ◌++◌}
+use Rattle.std.proofs.Common.{length, Some, None, is_some, refl, sym, ap, ◌∙◌, subst, arith}
 use Rattle.std.proofs.Math.Dec.{eqb}
 use Rattle.std.specs.List.{IsDistinct, AllByRecursion, list_any}
 use Rattle.std.proofs.lemmas.Bool.{eqb-true}
 use Rattle.std.proofs.lemmas.Map.Steps.{length-le_from_distinct_below}
 use Rattle.std.proofs.Math.Nat.{mul-le-mul}
 use Rattle.cbdc_types.specs.Limits.{IsWithinLimits}
-use Rattle.cbdc_model.specs.Records.{Shape, Batch, Compact, Record, Row, journal, record_of, stamp_of, stamp_in, last_stamp, kind_of, is_of, Lock, Finish, Forget, Prepare, Commit, Discard, Done}
+use Rattle.cbdc_model.specs.Records.{Shape, Batch, Compact, Record, Row, journal, record_of, stamp_of, stamp_in, last_stamp, kind_of, is_of, Lock}
+use Rattle.cbdc_model.specs.Records.{Finish, Forget, Prepare, Commit, Discard, Done}
 use Rattle.cbdc_model.specs.Causes.{IsCaused}
 use Rattle.cbdc_model.specs.Clean.{IsProperCompact}
 use Rattle.cbdc_model.specs.Grammar.{IsInGrammar}
@@ -34,7 +36,8 @@ too_late : (stamp : ℕ) → 2 ^ 62 < stamp → stamp ≤ 2 ^ 62 → ⊥
 too_late stamp lt le = omega arith
 
 -- a late record is none of those with early stamps
-placed : (K : Shape) (minting : Minted) (n : ℕ) (J : List Record) (r : Record) → Next K n J r → IsInGrammar (header_of K minting.id n) r → 2 ^ 62 < stamp_of r → Placed K n r
+placed : (K : Shape) (minting : Minted) (n : ℕ) (J : List Record) (r : Record) → Next K n J r → IsInGrammar (header_of K minting.id n) r
+    → 2 ^ 62 < stamp_of r → Placed K n r
 placed K minting n J (Lock stamp b es) next g late = absurd (too_late stamp late g.0.1)
 placed K minting n J (Prepare stamp b txs) next g late = absurd (too_late stamp late g.0.1)
 placed K minting n J (Finish stamp b ds) next g late =
@@ -50,7 +53,8 @@ placed K minting n J (Done stamp b) next g late =
 placed K minting n J other next g late = absurd next
 
 some_late : (o : ℕ → List Record) (kind n : ℕ) (b : Batch) → 2 ^ 62 < stamp_in (record_of kind (o n) b) → is_some (record_of kind (o n) b) ≡ true
-some_late o kind n b lt = elim (record_of kind (o n) b) as (λ f. 2 ^ 62 < stamp_in f → is_some f ≡ true) [ None ↦ λ h. absurd (omega arith) | Some r ↦ λ h. refl ] lt
+some_late o kind n b lt = elim (record_of kind (o n) b) as (λ f. 2 ^ 62 < stamp_in f → is_some f ≡ true)
+    [ None ↦ λ h. absurd (omega arith) | Some r ↦ λ h. refl ] lt
 
 none_equal : (k : ℕ) (xs : List ℕ) → list_any (eqb k) xs ≡ false → AllByRecursion (λ y. eqb k y ≡ false) xs
 none_equal k [] h = tt
@@ -77,30 +81,45 @@ module _ (K : Shape) (minting : Minted) (P : Compact → Type 0) (shards : 0 < K
     late : 2 ^ 62 < stamp_in (record_of kind (whole later node) batch)
 
   -- what is late stays so behind another row
-  later_late : (row : Row) (later : List Row) → Steady K minting P (row ∷ later) → (n kind : ℕ) (b : Batch) → 2 ^ 62 < stamp_in (record_of kind (whole later n) b)
+  later_late : (row : Row) (later : List Row) → Steady K minting P (row ∷ later) → (n kind : ℕ) (b : Batch)
+      → 2 ^ 62 < stamp_in (record_of kind (whole later n) b)
       → 2 ^ 62 < stamp_in (record_of kind (whole (row ∷ later) n) b)
   later_late row later kept n kind b late = elim (at_node row.node n) [
     | away a ↦ subst (λ J. 2 ^ 62 < stamp_in (record_of kind J b)) (sym (head_away row (later ++ first_rows K minting) n a)) late
     | at a ↦ subst (λ J. 2 ^ 62 < stamp_in (record_of kind J b)) (sym (head_at row (later ++ first_rows K minting) n a))
-        (elim ((kind_of row.what == kind) && is_of b row.what) as (λ t. ((kind_of row.what == kind) && is_of b row.what) ≡ t → 2 ^ 62 < stamp_in (record_of kind (row.what ∷ whole later n) b)) [
-          | true ↦ λ t. absurd (once K row.node (whole later row.node) ((all_structure K minting P shards later kept.3).journals row.node) (all_more K minting P shards later kept.3 row.node)
-              row.what kept.0 kind b t (subst (λ m. is_some (record_of kind (whole later m) b) ≡ true) (sym a) (some_late (whole later) kind n b late)))
+        (elim ((kind_of row.what == kind) && is_of b row.what) as
+        (λ t. ((kind_of row.what == kind) && is_of b row.what) ≡ t → 2 ^ 62 < stamp_in (record_of kind (row.what ∷ whole later n) b)) [
+          | true ↦ λ t. absurd (once K row.node (whole later row.node) ((all_structure K minting P shards later kept.3).journals row.node)
+              (all_more K minting P shards later kept.3 row.node)
+              row.what kept.0 kind b t (subst (λ m. is_some (record_of kind (whole later m) b) ≡ true) (sym a)
+              (some_late (whole later) kind n b late)))
           | false ↦ λ t. subst (λ o. 2 ^ 62 < stamp_in o) (sym (test_step kind row.what (whole later n) b t)) late
         ] refl)
   ]
 
   lift : (row : Row) (later : List Row) → Steady K minting P (row ∷ later) → (code : ℕ) → LateAt later code → LateAt (row ∷ later) code
   lift row later kept code l =
-      record { node = l.node; kind = l.kind; batch = l.batch; below = l.below; place = l.place; is = l.is; late = later_late row later kept l.node l.kind l.batch l.late }
+      record {
+        node = l.node;
+        kind = l.kind;
+        batch = l.batch;
+        below = l.below;
+        place = l.place;
+        is = l.is;
+        late = later_late row later kept l.node l.kind l.batch l.late;
+      }
 
   row_placed : (row : Row) (later : List Row) → Steady K minting P (row ∷ later) → is_late row.what ≡ true → Placed K row.node row.what
   row_placed row later kept t = placed K minting row.node (whole later row.node) row.what kept.0 kept.4 (late_above row.what t)
 
-  row_late : (row : Row) (later : List Row) → is_late row.what ≡ true → (p : Placed K row.node row.what) → 2 ^ 62 < stamp_in (record_of (kind_of row.what) (whole (row ∷ later) row.node) p.batch)
-  row_late row later t p = subst (λ J. 2 ^ 62 < stamp_in (record_of (kind_of row.what) J p.batch)) (sym (head_at row (later ++ first_rows K minting) row.node refl))
+  row_late : (row : Row) (later : List Row) → is_late row.what ≡ true → (p : Placed K row.node row.what)
+      → 2 ^ 62 < stamp_in (record_of (kind_of row.what) (whole (row ∷ later) row.node) p.batch)
+  row_late row later t p = subst (λ J. 2 ^ 62 < stamp_in (record_of (kind_of row.what) J p.batch))
+      (sym (head_at row (later ++ first_rows K minting) row.node refl))
       (subst (λ o. 2 ^ 62 < stamp_in o) (sym (found_new (kind_of row.what) row.what (whole later row.node) p.batch p.is_of)) (late_above row.what t))
 
-  same_code : (row : Row) (later : List Row) (p : Placed K row.node row.what) → code_of K (lane_in row.what) row.node (kind_of row.what) ≡ code_of K p.batch.lane row.node (kind_of row.what)
+  same_code : (row : Row) (later : List Row) (p : Placed K row.node row.what)
+      → code_of K (lane_in row.what) row.node (kind_of row.what) ≡ code_of K p.batch.lane row.node (kind_of row.what)
   same_code row later p = ap (λ l. code_of K l row.node (kind_of row.what)) (sym p.lane)
 
   -- each code is a late record's
@@ -108,8 +127,10 @@ module _ (K : Shape) (minting : Minted) (P : Compact → Type 0) (shards : 0 < K
   late_at [] kept code h = absurd (let z : false ≡ true = h in cc)
   late_at (row ∷ later) kept code h =
       elim (is_late row.what) as (λ t. is_late row.what ≡ t
-      → list_any (eqb code) (if t then code_of K (lane_in row.what) row.node (kind_of row.what) ∷ late_codes K later else late_codes K later) ≡ true → LateAt (row ∷ later) code) [
-        | true ↦ λ t h. elim (eqb code (code_of K (lane_in row.what) row.node (kind_of row.what))) as (λ c. eqb code (code_of K (lane_in row.what) row.node (kind_of row.what)) ≡ c
+      → list_any (eqb code) (if t then code_of K (lane_in row.what) row.node (kind_of row.what) ∷ late_codes K later else late_codes K later) ≡ true
+      → LateAt (row ∷ later) code) [
+        | true ↦ λ t h. elim (eqb code (code_of K (lane_in row.what) row.node (kind_of row.what))) as
+            (λ c. eqb code (code_of K (lane_in row.what) row.node (kind_of row.what)) ≡ c
             → (c || list_any (eqb code) (late_codes K later)) ≡ true → LateAt (row ∷ later) code) [
               | true ↦ λ e h.
                   let p = row_placed row later kept t in
@@ -128,27 +149,37 @@ module _ (K : Shape) (minting : Minted) (P : Compact → Type 0) (shards : 0 < K
       ] refl h
 
   -- a new row's code is none of those before
-  new_code : (row : Row) (later : List Row) → Steady K minting P (row ∷ later) → is_late row.what ≡ true → list_any (eqb (code_of K (lane_in row.what) row.node (kind_of row.what))) (late_codes K later) ≡ true → ⊥
-  new_code row later kept t h = by_place (row_placed row later kept t) (late_at later kept.3 (code_of K (lane_in row.what) row.node (kind_of row.what)) h)
+  new_code : (row : Row) (later : List Row) → Steady K minting P (row ∷ later) → is_late row.what ≡ true
+      → list_any (eqb (code_of K (lane_in row.what) row.node (kind_of row.what))) (late_codes K later) ≡ true → ⊥
+  new_code row later kept t h = by_place (row_placed row later kept t)
+      (late_at later kept.3 (code_of K (lane_in row.what) row.node (kind_of row.what)) h)
     where
       by_place : Placed K row.node row.what → LateAt later (code_of K (lane_in row.what) row.node (kind_of row.what)) → ⊥
       by_place p l =
           let s : SamePlace p.batch.lane row.node (kind_of row.what) l.batch.lane l.node l.kind
           = code_tells K p.batch.lane row.node (kind_of row.what) l.batch.lane l.node l.kind p.place l.place (sym (same_code row later p) ∙ l.is) in
-          let one : p.batch ≡ l.batch = one_late K minting P shards (row ∷ later) kept p.batch l.batch (row.node, kind_of row.what, row_late row later t p)
+          let one : p.batch ≡ l.batch = one_late K minting P shards (row ∷ later) kept p.batch l.batch
+          (row.node, kind_of row.what, row_late row later t p)
           (l.node, l.kind, later_late row later kept l.node l.kind l.batch l.late) s.lanes in
           let found : is_some (record_of l.kind (whole later l.node) l.batch) ≡ true = some_late (whole later) l.kind l.node l.batch l.late in
           let here : is_some (record_of (kind_of row.what) (whole later row.node) l.batch) ≡ true
-          = subst (λ k. is_some (record_of k (whole later row.node) l.batch) ≡ true) (sym s.kinds) (subst (λ n. is_some (record_of l.kind (whole later n) l.batch) ≡ true) (sym s.nodes) found) in
-          once K row.node (whole later row.node) ((all_structure K minting P shards later kept.3).journals row.node) (all_more K minting P shards later kept.3 row.node)
-          row.what kept.0 (kind_of row.what) l.batch (subst (λ b. ((kind_of row.what == kind_of row.what) && is_of b row.what) ≡ true) one p.is_of) here
+          = subst (λ k. is_some (record_of k (whole later row.node) l.batch) ≡ true) (sym s.kinds)
+          (subst (λ n. is_some (record_of l.kind (whole later n) l.batch) ≡ true) (sym s.nodes) found) in
+          once K row.node (whole later row.node) ((all_structure K minting P shards later kept.3).journals row.node)
+          (all_more K minting P shards later kept.3 row.node)
+          row.what kept.0 (kind_of row.what) l.batch (subst (λ b. ((kind_of row.what == kind_of row.what) && is_of b row.what) ≡ true) one p.is_of)
+          here
 
   apart : (later : List Row) → Steady K minting P later → IsDistinct eqb (late_codes K later)
   unfolding IsDistinct
   apart [] kept = tt
   apart (row ∷ later) kept =
-      elim (is_late row.what) as (λ t. is_late row.what ≡ t → IsDistinct eqb (if t then code_of K (lane_in row.what) row.node (kind_of row.what) ∷ late_codes K later else late_codes K later)) [
-        | true ↦ λ t. (none_equal (code_of K (lane_in row.what) row.node (kind_of row.what)) (late_codes K later) (not_any (λ h. new_code row later kept t h)), apart later kept.3)
+      elim (is_late row.what) as (λ t. is_late row.what ≡ t
+      → IsDistinct eqb (if t then code_of K (lane_in row.what) row.node (kind_of row.what) ∷ late_codes K later else late_codes K later)) [
+        | true ↦ λ t. (
+          none_equal (code_of K (lane_in row.what) row.node (kind_of row.what)) (late_codes K later) (not_any (λ h. new_code row later kept t h)),
+          apart later kept.3,
+        )
         | false ↦ λ t. apart later kept.3
       ] refl
     where
@@ -156,7 +187,8 @@ module _ (K : Shape) (minting : Minted) (P : Compact → Type 0) (shards : 0 < K
       not_any h = grind arith
 
   few : (later : List Row) → Steady K minting P later → length (late_codes K later) ≤ late_records K
-  few later kept = length-le_from_distinct_below (late_codes K later) (late_records K) (apart later kept) (λ code h. below code (late_at later kept code h))
+  few later kept = length-le_from_distinct_below (late_codes K later) (late_records K) (apart later kept)
+      (λ code h. below code (late_at later kept code h))
     where
       below : (code : ℕ) → LateAt later code → code < late_records K
       below code l = subst (λ c. c < late_records K) (sym l.is) (code_below K l.batch.lane l.node l.kind l.below l.place)
@@ -164,9 +196,11 @@ module _ (K : Shape) (minting : Minted) (P : Compact → Type 0) (shards : 0 < K
   pub low : (later : List Row) → Steady K minting P later → (n : ℕ) → last_stamp (whole later n) ≤ 2 ^ 62 + late_records K
   low later kept n = let s = stamps_le K minting P shards later kept n in let f = few later kept in omega arith
 
-  pub caused_low : (later : List Row) → Steady K minting P later → (n : ℕ) (r : Record) → IsCaused K (whole later) n r → stamp_of r ≤ suc (2 ^ 62 + late_records K)
+  pub caused_low : (later : List Row) → Steady K minting P later → (n : ℕ) (r : Record) → IsCaused K (whole later) n r
+      → stamp_of r ≤ suc (2 ^ 62 + late_records K)
   caused_low later kept n r caused =
-      caused_le K (whole later) n (2 ^ 62 + late_records K) r (λ m. low later kept m) (λ kind m b. found_le K minting P shards later kept (2 ^ 62 + late_records K) (λ m. low later kept m) kind m b) caused
+      caused_le K (whole later) n (2 ^ 62 + late_records K) r (λ m. low later kept m)
+      (λ kind m b. found_le K minting P shards later kept (2 ^ 62 + late_records K) (λ m. low later kept m) kind m b) caused
 
 pub few_late_law : FewLateLaw
 few_late_law K mint txs J n shards k =
@@ -184,7 +218,9 @@ few_enough K limits =
 pub none_refused_law : NoneRefusedLaw
 none_refused_law K mint txs J n r limits k caused =
     let steady_rows = steady K (minted mint) (IsProperCompact txs) k.later k.kept in
-    let c : IsCaused K (λ m. journal m (k.later ++ first_rows K (minted mint))) n r = subst (λ X. IsCaused K X n r) (λ i m. sym (k.history.journals_are m) i) caused in
-    let l : stamp_of r ≤ suc (2 ^ 62 + late_records K) = caused_low K (minted mint) (IsProperCompact txs) limits.some_shard k.later steady_rows n r c in
+    let c : IsCaused K (λ m. journal m (k.later ++ first_rows K (minted mint))) n r =
+    subst (λ X. IsCaused K X n r) (λ i m. sym (k.history.journals_are m) i) caused in
+    let l : stamp_of r ≤ suc (2 ^ 62 + late_records K) = caused_low K (minted mint) (IsProperCompact txs) limits.some_shard k.later steady_rows n r c
+    in
     let f : late_records K ≤ 33536 = few_enough K limits in
     omega arith

@@ -1,5 +1,6 @@
 -- Where the Locks that are still to come at each shard fit below 2^62, they do so behind each of them.
-use Rattle.std.proofs.Common.{◌≡◌, ℕ, zero, suc, ◌+◌, ◌*◌, ◌^◌, ◌<◌, ◌≤◌, max, Bool, true, false, ◌==◌, if◌then◌else◌, List, refl, sym, ap, ◌∙◌, subst, arith}
+use Rattle.std.proofs.Common.{◌≡◌, ℕ, zero, suc, ◌+◌, ◌*◌, ◌^◌, ◌<◌, ◌≤◌, max, Bool, true, false, ◌==◌, if◌then◌else◌, List, refl, sym, ap, ◌∙◌}
+use Rattle.std.proofs.Common.{subst, arith}
 use Rattle.cbdc_model.specs.Records.{Shape, Compact, Record, record_of, stamp_in, last_stamp}
 use Rattle.cbdc_model.specs.Ranges.{shard_node}
 use Rattle.cbdc_model.specs.Due.{open_batch}
@@ -23,12 +24,15 @@ module _ (K : Shape) (I J : ℕ → List Record) (s : ℕ) where
       one_le false true m k h le = omega arith
       one_le false false m k h le = omega arith
 
-  due_less : (one n : ℕ) → one < n → ((lane : ℕ) → lane < n → lacks_lock K J s lane ≡ true → lacks_lock K I s lane ≡ true) → lacks_lock K I s one ≡ true → lacks_lock K J s one ≡ false
+  due_less : (one n : ℕ) → one < n → ((lane : ℕ) → lane < n → lacks_lock K J s lane ≡ true → lacks_lock K I s lane ≡ true)
+      → lacks_lock K I s one ≡ true → lacks_lock K J s one ≡ false
       → suc (locks_due K J s n) ≤ locks_due K I s n
   due_less one zero lt h i j = absurd (omega arith)
   due_less one (suc n) lt h i j = elim (at_node n one) [
-    | at e ↦ here (due_le n (λ lane lt. h lane (omega arith))) (subst (λ l. lacks_lock K I s l ≡ true) (sym e) i) (subst (λ l. lacks_lock K J s l ≡ false) (sym e) j)
-    | away a ↦ later (lacks_lock K J s n) (lacks_lock K I s n) (locks_due K J s n) (locks_due K I s n) (h n (omega arith)) (due_less one n (below n one lt a) (λ lane lt. h lane (omega arith)) i j)
+    | at e ↦ here (due_le n (λ lane lt. h lane (omega arith))) (subst (λ l. lacks_lock K I s l ≡ true) (sym e) i)
+        (subst (λ l. lacks_lock K J s l ≡ false) (sym e) j)
+    | away a ↦ later (lacks_lock K J s n) (lacks_lock K I s n) (locks_due K J s n) (locks_due K I s n) (h n (omega arith))
+        (due_less one n (below n one lt a) (λ lane lt. h lane (omega arith)) i j)
   ]
     where
       below : (n one : ℕ) → one < suc n → (n == one) ≡ false → one < n
@@ -73,7 +77,8 @@ module _ (K : Shape) (minting : Minted) (P : Compact → Type 0) (shards : 0 < K
   all_lanes = K.coordinators * K.lanes
 
   -- over numbers: behind one of the Locks, for another one
-  behind : (last one other due due' new : ℕ) → new ≡ suc (max last one) → max last one + due ≤ 2 ^ 62 → max last other + due ≤ 2 ^ 62 → suc due' ≤ due → max new other + due' ≤ 2 ^ 62
+  behind : (last one other due due' new : ℕ) → new ≡ suc (max last one) → max last one + due ≤ 2 ^ 62 → max last other + due ≤ 2 ^ 62
+      → suc due' ≤ due → max new other + due' ≤ 2 ^ 62
   behind last one other due due' new e h g le = omega arith
 
   elsewhere : (before before' due due' : ℕ) → before' ≡ before → before + due ≤ 2 ^ 62 → due' ≤ due → before' + due' ≤ 2 ^ 62
@@ -82,8 +87,10 @@ module _ (K : Shape) (minting : Minted) (P : Compact → Type 0) (shards : 0 < K
   pub fits_stay : (v u : World) (s lane : ℕ) → s < K.shards → lane < K.coordinators * K.lanes → lacks_lock K (journals v) s lane ≡ true
       → LockStep K minting P shards lanes v u s lane → LocksFit K (journals v) → LocksFit K (journals u)
   fits_stay v u s lane ls ll lacks step fit t other lt lo h = elim (at_node s t) [
-    | at e ↦ subst (λ k. lacks_lock K (journals u) k other ≡ true → before_lock K (journals u) k other + locks_due K (journals u) k all_lanes ≤ 2 ^ 62) e at_same h
-    | away a ↦ elsewhere (before_lock K (journals v) t other) (before_lock K (journals u) t other) (locks_due K (journals v) t all_lanes) (locks_due K (journals u) t all_lanes)
+    | at e ↦ subst (λ k. lacks_lock K (journals u) k other ≡ true
+        → before_lock K (journals u) k other + locks_due K (journals u) k all_lanes ≤ 2 ^ 62) e at_same h
+    | away a ↦ elsewhere (before_lock K (journals v) t other) (before_lock K (journals u) t other) (locks_due K (journals v) t all_lanes)
+        (locks_due K (journals u) t all_lanes)
         (same_before a) (fit t other lt lo (fewer K minting P shards lanes v u s lane ll step t other lo h))
         (due_le K (journals v) (journals u) t all_lanes (λ l m. fewer K minting P shards lanes v u s lane ll step t l m))
   ]
@@ -100,15 +107,18 @@ module _ (K : Shape) (minting : Minted) (P : Compact → Type 0) (shards : 0 < K
           let before : before_lock K (journals u) s other ≡ max (last_stamp (journals u (shard_node K s))) (lock_cause K (journals v) other)
           = ap (λ c. max (last_stamp (journals u (shard_node K s))) c) same_cause in
           subst (λ b. b + locks_due K (journals u) s all_lanes ≤ 2 ^ 62) (sym before)
-          (behind (last_stamp (journals v (shard_node K s))) (lock_cause K (journals v) lane) (lock_cause K (journals v) other) (locks_due K (journals v) s all_lanes) (locks_due K (journals u) s all_lanes)
+          (behind (last_stamp (journals v (shard_node K s))) (lock_cause K (journals v) lane) (lock_cause K (journals v) other)
+          (locks_due K (journals v) s all_lanes) (locks_due K (journals u) s all_lanes)
           (last_stamp (journals u (shard_node K s))) (ap last_stamp step.here ∙ step.stamp) (fit s lane ls ll lacks)
           (fit s other ls lo (fewer K minting P shards lanes v u s lane ll step s other lo h))
-          (due_less K (journals v) (journals u) s lane all_lanes ll (λ l m. fewer K minting P shards lanes v u s lane ll step s l m) lacks (one_less K minting P shards lanes v u s lane ll step)))
+          (due_less K (journals v) (journals u) s lane all_lanes ll (λ l m. fewer K minting P shards lanes v u s lane ll step s l m) lacks
+          (one_less K minting P shards lanes v u s lane ll step)))
 
   -- so none is stuck
   pub fits_not_stuck : (w : World) → LocksFit K (journals w) → IsStuck K (journals w) → ⊥
   fits_not_stuck w fit stuck =
       let h = fit stuck.shard stuck.lane stuck.of_shape.0 stuck.of_shape.1 stuck.lacks in
-      let some : 0 < locks_due K (journals w) stuck.shard all_lanes = due_some K (journals w) (journals w) stuck.shard stuck.lane all_lanes stuck.of_shape.1 stuck.lacks in
+      let some : 0 < locks_due K (journals w) stuck.shard all_lanes =
+      due_some K (journals w) (journals w) stuck.shard stuck.lane all_lanes stuck.of_shape.1 stuck.lacks in
       let n = stuck.needs in
       omega arith

@@ -1,5 +1,6 @@
 -- What a stopped turn left in flight is caused, and journals stay kept with it or without.
-use Rattle.std.proofs.Common.{◌≡◌, ◌≢◌, ◌⊎◌, inl, inr, ℕ, ◌+◌, ◌-◌, ◌<◌, ◌≤◌, true, false, ◌||◌, not, ◌==◌, nat_lt, if◌then◌else◌, List, [], ◌∷◌, ◌++◌, Option, Some, refl, sym, ap, ◌∙◌, subst, arith, append-nil}
+use Rattle.std.proofs.Common.{◌≡◌, ◌≢◌, ◌⊎◌, inl, inr, ℕ, ◌+◌, ◌-◌, ◌<◌, ◌≤◌, true, false, ◌||◌, not, ◌==◌, nat_lt, if◌then◌else◌, List, [], ◌∷◌}
+use Rattle.std.proofs.Common.{◌++◌, Option, Some, refl, sym, ap, ◌∙◌, subst, arith, append-nil}
 use Rattle.cbdc_model.specs.Records.{Shape, Compact, Record, Prepare}
 use Rattle.cbdc_model.specs.Ranges.{home_of, shard_node}
 use Rattle.cbdc_model.specs.Clean.{IsProperCompact}
@@ -36,16 +37,22 @@ module _ (K : Shape) (lane : ℕ) (logs shards : ℕ → Sight) (home : home_of 
   ends : (n : ℕ) (L : List Record) → IsEnd L (view K lane (logs (home_of K lane)) shards n) → IsEnd L (seen_by K logs shards n)
   ends n L h = elim (sees K lane n) as (λ t. sees K lane n ≡ t → IsEnd L (seen_by K logs shards n)) [
     | true ↦ λ s. (h.0, seen_view K lane logs shards n home s ∙ h.1)
-    | false ↦ λ s. (seen_by K logs shards n, sym (append-nil (seen_by K logs shards n)) ∙ ap (λ M. seen_by K logs shards n ++ M) (empty L h.0 (sym (unseen n s) ∙ h.1)))
+    | false ↦ λ s. (
+      seen_by K logs shards n,
+      sym (append-nil (seen_by K logs shards n)) ∙ ap (λ M. seen_by K logs shards n ++ M) (empty L h.0 (sym (unseen n s) ∙ h.1)),
+    )
   ] refl
 
-  seen_lift : (n : ℕ) (r : Record) → sees K lane n ≡ true → Seen K (view K lane (logs (home_of K lane)) shards) n (view K lane (logs (home_of K lane)) shards n) r
+  seen_lift : (n : ℕ) (r : Record) → sees K lane n ≡ true
+      → Seen K (view K lane (logs (home_of K lane)) shards) n (view K lane (logs (home_of K lane)) shards n) r
       → Seen K (seen_by K logs shards) n (seen_by K logs shards n) r
   seen_lift n r s h = subst (λ rest. Seen K (seen_by K logs shards) n rest r) (sym (seen_view K lane logs shards n home s))
       (record { lists = h.lists; ends = λ m. ends m (h.lists m) (h.ends m); caused = h.caused })
 
-module _ (K : Shape) (P : Compact → Type 0) (pieces : List (List Compact)) (lane : ℕ) (logs shards logs' shards' : ℕ → Sight) (home : home_of K lane < K.coordinators) (pass : AllPass P pieces)
-    (elsewhere : Elsewhere K lane logs logs') (flown : Flown K pieces lane (logs (home_of K lane)) shards (logs' (home_of K lane)) shards') (n : ℕ) (r : Record) (e : flying K logs' shards' n ≡ Some r) where
+module _ (K : Shape) (P : Compact → Type 0) (pieces : List (List Compact)) (lane : ℕ) (logs shards logs' shards' : ℕ → Sight)
+    (home : home_of K lane < K.coordinators) (pass : AllPass P pieces)
+    (elsewhere : Elsewhere K lane logs logs') (flown : Flown K pieces lane (logs (home_of K lane)) shards (logs' (home_of K lane)) shards') (n : ℕ)
+    (r : Record) (e : flying K logs' shards' n ≡ Some r) where
   abbrev Comes : Type 0
   Comes = (flying K logs shards n ≡ Some r) ⊎ (Seen K (seen_by K logs' shards') n (seen_by K logs' shards' n) r × TxsPass P r)
 
@@ -73,7 +80,8 @@ module _ (K : Shape) (P : Compact → Type 0) (pieces : List (List Compact)) (la
         let it : new.0 ≡ r = some_is new.0 r (sym new.1 ∙ sym is ∙ e) in
         inr (
           subst (λ k. Seen K (seen_by K logs' shards') k (seen_by K logs' shards' k) r) at
-              (subst (λ q. Seen K (seen_by K logs' shards') m (seen_by K logs' shards' m) q) it (seen_lift K lane logs' shards' home m new.0 s new.3)),
+              (subst (λ q. Seen K (seen_by K logs' shards') m (seen_by K logs' shards' m) q) it
+              (seen_lift K lane logs' shards' home m new.0 s new.3)),
           subst (TxsPass P) it (passes P pieces new.0 pass new.4),
         )
   ]
@@ -89,14 +97,16 @@ module _ (K : Shape) (P : Compact → Type 0) (pieces : List (List Compact)) (la
       (low logs shards t ∙ ap (λ m. (logs m).flight) (sym at)) (low logs' shards' t ∙ ap (λ m. (logs' m).flight) (sym at)) flown.log_flown
 
   at_shard : nat_lt n K.coordinators ≡ false → n ≡ shard_node K (n - K.coordinators) → Comes
-  at_shard t at = comes (shard_node K (n - K.coordinators)) (shards (n - K.coordinators)).flight (shards' (n - K.coordinators)).flight (sym at) (sees_shard (home_of K lane) K.coordinators (n - K.coordinators))
+  at_shard t at = comes (shard_node K (n - K.coordinators)) (shards (n - K.coordinators)).flight (shards' (n - K.coordinators)).flight (sym at)
+      (sees_shard (home_of K lane) K.coordinators (n - K.coordinators))
       (high logs shards t) (high logs' shards' t) (flown.shard_flown (n - K.coordinators))
 
   pub flown_so : Comes
   flown_so = elim (nat_lt n K.coordinators) as (λ t. nat_lt n K.coordinators ≡ t → Comes) [
     | true ↦ λ t. elim (home_of K lane == n) as (λ u. (home_of K lane == n) ≡ u → Comes) [
       | true ↦ λ u. at_log t (same_node (home_of K lane) n u)
-      | false ↦ λ u. inl (low logs shards t ∙ ap (λ g. g.flight) (sym (elsewhere n (other_node (home_of K lane) n u))) ∙ sym (low logs' shards' t) ∙ e)
+      | false ↦ λ u. inl (low logs shards t ∙ ap (λ g. g.flight) (sym (elsewhere n (other_node (home_of K lane) n u))) ∙ sym (low logs' shards' t)
+          ∙ e)
     ] refl
     | false ↦ λ t. at_shard t (high_node n K.coordinators t)
   ] refl

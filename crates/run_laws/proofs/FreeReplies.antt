@@ -1,5 +1,6 @@
 -- What a shard replies to a transaction whose inputs it has as Unspent, and which no earlier entry claims.
-use Rattle.std.proofs.Common.{◌≡◌, ◌⊎◌, inl, inr, ℕ, zero, suc, ◌+◌, ◌<◌, Bool, true, false, ◌&&◌, ◌||◌, ◌==◌, if◌then◌else◌, List, [], ◌∷◌, ◌++◌, length, Option, Some, None, refl, sym, ap, ◌∙◌, subst, arith}
+use Rattle.std.proofs.Common.{◌≡◌, ◌⊎◌, inl, inr, ℕ, zero, suc, ◌+◌, ◌<◌, Bool, true, false, ◌&&◌, ◌||◌, ◌==◌, if◌then◌else◌, List, [], ◌∷◌, ◌++◌}
+use Rattle.std.proofs.Common.{length, Option, Some, None, refl, sym, ap, ◌∙◌, subst, arith}
 use Rattle.cbdc_model.specs.Records.{Digest, same_digest, Batch, Compact, Reply, Outcome, Answered, Record, is_held, Held, Missing, Taken, Won}
 use Rattle.cbdc_model.specs.Status.{status, has, Unspent}
 use Rattle.cbdc_model.specs.Replies.{refusal, first_reply, reply_to, answered}
@@ -25,13 +26,15 @@ later_has y xs x h = grind (arith, h)
 -- what lies on a shard of a list
 pub on_has : (shards s : ℕ) (xs : List Digest) (x : Digest) → has (on_shard shards s xs) x ≡ true → (has xs x ≡ true) × (shard_of shards x ≡ s)
 on_has shards s [] x h = absurd (let z : false ≡ true = h in cc)
-on_has shards s (y ∷ ys) x h = elim (shard_of shards y == s) as (λ c. (shard_of shards y == s) ≡ c → has (if c then y ∷ on_shard shards s ys else on_shard shards s ys) x ≡ true → (has (y ∷ ys) x ≡ true) × (shard_of shards x ≡ s)) [
-  | true ↦ λ e g. elim (one_of (same_digest y x) (has (on_shard shards s ys) x) g) [
-    | inl same ↦ (ap (λ b. b || has ys x) same, ap (shard_of shards) (sym (same_digest_is y x same)) ∙ equal (shard_of shards y) s e)
-    | inr more ↦ let r = on_has shards s ys x more in (later_has y ys x r.0, r.1)
-  ]
-  | false ↦ λ e g. let r = on_has shards s ys x g in (later_has y ys x r.0, r.1)
-] refl h
+on_has shards s (y ∷ ys) x h = elim (shard_of shards y == s) as
+    (λ c. (shard_of shards y == s) ≡ c → has (if c then y ∷ on_shard shards s ys else on_shard shards s ys) x ≡ true
+    → (has (y ∷ ys) x ≡ true) × (shard_of shards x ≡ s)) [
+      | true ↦ λ e g. elim (one_of (same_digest y x) (has (on_shard shards s ys) x) g) [
+        | inl same ↦ (ap (λ b. b || has ys x) same, ap (shard_of shards) (sym (same_digest_is y x same)) ∙ equal (shard_of shards y) s e)
+        | inr more ↦ let r = on_has shards s ys x more in (later_has y ys x r.0, r.1)
+      ]
+      | false ↦ λ e g. let r = on_has shards s ys x g in (later_has y ys x r.0, r.1)
+    ] refl h
   where
     equal : (m n : ℕ) → (m == n) ≡ true → m ≡ n
     equal m n e = grind (arith, e)
@@ -44,7 +47,8 @@ on_lacks shards s xs x h = elim (has (on_shard shards s xs) x) as (λ c. has (on
 
 has_both : (xs ys : List Digest) (x : Digest) → has xs x ≡ false → has ys x ≡ false → has (xs ++ ys) x ≡ false
 has_both [] ys x h g = g
-has_both (z ∷ xs) ys x h g = none_of (same_digest z x) (has (xs ++ ys) x) (first_of (same_digest z x) (has xs x) h) (has_both xs ys x (second_of (same_digest z x) (has xs x) h) g)
+has_both (z ∷ xs) ys x h g = none_of (same_digest z x) (has (xs ++ ys) x) (first_of (same_digest z x) (has xs x) h)
+    (has_both xs ys x (second_of (same_digest z x) (has xs x) h) g)
   where
     first_of : (a c : Bool) → (a || c) ≡ false → a ≡ false
     first_of a c h = grind (arith, h)
@@ -74,33 +78,40 @@ module _ (past : List Record) (b : Batch) (shards s : ℕ) (y : Compact)
   none_below claimed k j [] lt = refl
   none_below claimed k j (t ∷ ts) lt =
       elim (is_empty (on_shard shards s t.inputs) && is_empty (on_shard shards s t.outputs))
-      as (λ c. reply_at (answered past b claimed (if c then part shards s (suc j) ts else entry_of shards s j t ∷ part shards s (suc j) ts)) k ≡ None) [
+      as (λ c. reply_at (answered past b claimed (if c then part shards s (suc j) ts else entry_of shards s j t ∷ part shards s (suc j) ts)) k
+      ≡ None) [
         | true ↦ none_below claimed k (suc j) ts (omega (arith, lt))
         | false ↦
             let apart : (j == k) ≡ false = differs j k lt in
             ap (λ c. if c then Some (reply_to past b claimed (on_shard shards s t.inputs))
-            else reply_at (answered past b (if is_held (reply_to past b claimed (on_shard shards s t.inputs)) then on_shard shards s t.inputs ++ claimed else claimed) (part shards s (suc j) ts)) k) apart
-            ∙ none_below (if is_held (reply_to past b claimed (on_shard shards s t.inputs)) then on_shard shards s t.inputs ++ claimed else claimed) k (suc j) ts (omega (arith, lt))
+            else reply_at (answered past b (if is_held (reply_to past b claimed (on_shard shards s t.inputs))
+            then on_shard shards s t.inputs ++ claimed else claimed) (part shards s (suc j) ts)) k) apart
+            ∙ none_below (if is_held (reply_to past b claimed (on_shard shards s t.inputs)) then on_shard shards s t.inputs ++ claimed else claimed)
+            k (suc j) ts (omega (arith, lt))
       ]
     where
       differs : (j k : ℕ) → k < j → (j == k) ≡ false
       differs j k lt = grind (arith, lt)
 
-  claims : (r : Bool) (xs claimed : List Digest) (x : Digest) → has xs x ≡ false → has claimed x ≡ false → has (if r then xs ++ claimed else claimed) x ≡ false
+  claims : (r : Bool) (xs claimed : List Digest) (x : Digest) → has xs x ≡ false → has claimed x ≡ false
+      → has (if r then xs ++ claimed else claimed) x ≡ false
   claims true xs claimed x h g = has_both xs claimed x h g
   claims false xs claimed x h g = g
 
   pub good_reply : (claimed : List Digest) (k m : ℕ) (first last : List Compact) → m ≡ k + length first
-      → ((x : Digest) → has (on_shard shards s y.inputs) x ≡ true → has claimed x ≡ false) → ((x : Digest) → has (on_shard shards s y.inputs) x ≡ true → AllLack x first)
+      → ((x : Digest) → has (on_shard shards s y.inputs) x ≡ true → has claimed x ≡ false)
+      → ((x : Digest) → has (on_shard shards s y.inputs) x ≡ true → AllLack x first)
       → IsGood (reply_at (answered past b claimed (part shards s k (first ++ y ∷ last))) m)
   good_reply claimed k m [] last e free lack =
       elim (is_empty (on_shard shards s y.inputs) && is_empty (on_shard shards s y.outputs))
-      as (λ c. IsGood (reply_at (answered past b claimed (if c then part shards s (suc k) last else entry_of shards s k y ∷ part shards s (suc k) last)) m)) [
+      as (λ c. IsGood (reply_at (answered past b claimed
+      (if c then part shards s (suc k) last else entry_of shards s k y ∷ part shards s (suc k) last)) m)) [
         | true ↦ subst IsGood (sym (none_below claimed m (suc k) last (omega (arith, e)))) tt
         | false ↦
             let here : (k == m) ≡ true = same k m (omega (arith, e)) in
             subst IsGood (sym (ap (λ c. if c then Some (reply_to past b claimed (on_shard shards s y.inputs))
-            else reply_at (answered past b (if is_held (reply_to past b claimed (on_shard shards s y.inputs)) then on_shard shards s y.inputs ++ claimed else claimed) (part shards s (suc k) last)) m) here
+            else reply_at (answered past b (if is_held (reply_to past b claimed (on_shard shards s y.inputs))
+            then on_shard shards s y.inputs ++ claimed else claimed) (part shards s (suc k) last)) m) here
             ∙ ap (λ r. Some r) (held claimed (on_shard shards s y.inputs) (λ x h. h) free))) tt
       ]
     where
@@ -108,15 +119,20 @@ module _ (past : List Record) (b : Batch) (shards s : ℕ) (y : Compact)
       same k m e = grind (arith, e)
   good_reply claimed k m (t ∷ first) last e free lack =
       elim (is_empty (on_shard shards s t.inputs) && is_empty (on_shard shards s t.outputs))
-      as (λ c. IsGood (reply_at (answered past b claimed (if c then part shards s (suc k) (first ++ y ∷ last) else entry_of shards s k t ∷ part shards s (suc k) (first ++ y ∷ last))) m)) [
+      as (λ c. IsGood (reply_at (answered past b claimed
+      (if c then part shards s (suc k) (first ++ y ∷ last) else entry_of shards s k t ∷ part shards s (suc k) (first ++ y ∷ last))) m)) [
         | true ↦ good_reply claimed (suc k) m first last (omega (arith, e)) free (λ x h. (lack x h).1)
         | false ↦
             let apart : (k == m) ≡ false = differs k m (omega (arith, e)) in
-            let claimed' : List Digest = if is_held (reply_to past b claimed (on_shard shards s t.inputs)) then on_shard shards s t.inputs ++ claimed else claimed in
+            let claimed' : List Digest = if is_held (reply_to past b claimed (on_shard shards s t.inputs)) then on_shard shards s t.inputs ++ claimed
+            else claimed in
             subst IsGood (sym (ap (λ c. if c then Some (reply_to past b claimed (on_shard shards s t.inputs))
-            else reply_at (answered past b (if is_held (reply_to past b claimed (on_shard shards s t.inputs)) then on_shard shards s t.inputs ++ claimed else claimed) (part shards s (suc k) (first ++ y ∷ last))) m) apart))
-            (good_reply (if is_held (reply_to past b claimed (on_shard shards s t.inputs)) then on_shard shards s t.inputs ++ claimed else claimed) (suc k) m first last (omega (arith, e))
-            (λ x h. claims (is_held (reply_to past b claimed (on_shard shards s t.inputs))) (on_shard shards s t.inputs) claimed x (on_lacks shards s t.inputs x (lack x h).0) (free x h))
+            else reply_at (answered past b (if is_held (reply_to past b claimed (on_shard shards s t.inputs))
+            then on_shard shards s t.inputs ++ claimed else claimed) (part shards s (suc k) (first ++ y ∷ last))) m) apart))
+            (good_reply (if is_held (reply_to past b claimed (on_shard shards s t.inputs)) then on_shard shards s t.inputs ++ claimed else claimed)
+            (suc k) m first last (omega (arith, e))
+            (λ x h. claims (is_held (reply_to past b claimed (on_shard shards s t.inputs))) (on_shard shards s t.inputs) claimed x
+            (on_lacks shards s t.inputs x (lack x h).0) (free x h))
             (λ x h. (lack x h).1))
       ]
     where
@@ -132,13 +148,15 @@ good_by (Some (Taken x by)) s rest h = absurd h
 
 pub all_good : (locks : ℕ → List Answered) (k s n : ℕ) → ((r : ℕ) → r < s + n → IsGood (reply_at (locks r) k)) → outcome locks k s n ≡ Won
 all_good locks k s zero h = refl
-all_good locks k s (suc n) h = good_by (reply_at (locks s) k) s (outcome locks k (suc s) n) (h s (omega arith)) ∙ all_good locks k (suc s) n (λ r lt. h r (omega (arith, lt)))
+all_good locks k s (suc n) h = good_by (reply_at (locks s) k) s (outcome locks k (suc s) n) (h s (omega arith))
+    ∙ all_good locks k (suc s) n (λ r lt. h r (omega (arith, lt)))
 
 pub outcome_of_place : (locks : ℕ → List Answered) (shards k m j : ℕ) (first last : List Compact) (y : Compact) → m ≡ length first → j ≡ k + m
     → outcome_at (outcomes locks shards k (first ++ y ∷ last)) m ≡ Some (outcome locks j 0 shards)
 outcome_of_place locks shards k m j [] last y e f =
     let z : m ≡ 0 = e in
-    subst (λ n. outcome_at (outcomes locks shards k (y ∷ last)) n ≡ Some (outcome locks j 0 shards)) (sym z) (ap (λ n. Some (outcome locks n 0 shards)) (omega (arith, z, f)))
+    subst (λ n. outcome_at (outcomes locks shards k (y ∷ last)) n ≡ Some (outcome locks j 0 shards)) (sym z)
+    (ap (λ n. Some (outcome locks n 0 shards)) (omega (arith, z, f)))
 outcome_of_place locks shards k m j (t ∷ first) last y e f =
     subst (λ n. outcome_at (outcomes locks shards k (t ∷ (first ++ y ∷ last))) n ≡ Some (outcome locks j 0 shards)) (sym e)
     (outcome_of_place locks shards (suc k) (length first) j first last y refl (let z : m ≡ suc (length first) = e in omega (arith, z, f)))

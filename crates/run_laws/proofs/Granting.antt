@@ -2,7 +2,8 @@
 use Rattle.std.proofs.Common.{◌≡◌, ℕ, ◌<◌, Bool, true, false, ◌&&◌, not, nat_lt, List, ◌++◌, Some, is_some, sym, ap, ◌∙◌, subst, arith}
 use Rattle.cbdc_types.specs.declared.calls.Refused.{Refused}
 use Rattle.cbdc_types.specs.declared.calls.NodeFault.TheVariants.{Refused as Refuses}
-use Rattle.cbdc_model.specs.Records.{Shape, Batch, Compact, Outcome, Record, Row, journal, record_of, txs_of, txs_in, outcomes_in, outcomes_of, Finish, Forget, Prepare, Commit, Discard}
+use Rattle.cbdc_model.specs.Records.{Shape, Batch, Compact, Outcome, Record, Row, journal, record_of, txs_of, txs_in, outcomes_in, outcomes_of}
+use Rattle.cbdc_model.specs.Records.{Finish, Forget, Prepare, Commit, Discard}
 use Rattle.cbdc_model.specs.Slots.{slot, Idle, InPrepare, InCommit}
 use Rattle.cbdc_model.specs.Outcomes.{decisions}
 use Rattle.cbdc_model.specs.Ranges.{home_of, shard_node, part, is_no_part, Concerned}
@@ -31,12 +32,15 @@ concerned K txs s c = numbers s K.shards (is_no_part (part K.shards s 0 txs)) c
 
 -- a coordinator's journal and those of the shards grant the calls of an open batch
 pub record Grants (K : Shape) (b : Batch) (txs : List Compact) (H : List Record) (S : ℕ → List Record) : Type 0 where
-  pub lock : (s t : ℕ) (why : Refused) → is_concerned K txs s ≡ true → (slot H b.lane).phase ≡ InPrepare → record_of 6 H b ≡ Some (Prepare t b txs) → next_lock (S s) b (part K.shards s 0 txs) t ≡ Refuse why → ⊥
-  pub finish : (s t : ℕ) (os : List Outcome) (why : Refused) → is_concerned K txs s ≡ true → (slot H b.lane).phase ≡ InCommit → record_of 7 H b ≡ Some (Commit t b os)
+  pub lock : (s t : ℕ) (why : Refused) → is_concerned K txs s ≡ true → (slot H b.lane).phase ≡ InPrepare → record_of 6 H b ≡ Some (Prepare t b txs)
+      → next_lock (S s) b (part K.shards s 0 txs) t ≡ Refuse why → ⊥
+  pub finish : (s t : ℕ) (os : List Outcome) (why : Refused) → is_concerned K txs s ≡ true → (slot H b.lane).phase ≡ InCommit
+      → record_of 7 H b ≡ Some (Commit t b os)
       → next_finish (S s) b (decisions os (part K.shards s 0 txs)) t ≡ Refuse why → ⊥
   pub forget : (s t : ℕ) (why : Refused) → is_concerned K txs s ≡ true → record_of 8 H b ≡ Some (Discard t b) → next_forget (S s) b t ≡ Refuse why → ⊥
 
-module _ (K : Shape) (minting : Minted) (P : Compact → Type 0) (some : 0 < K.shards) (later : List Row) (kept : Steady K minting P later) (b : Batch) (txs : List Compact)
+module _ (K : Shape) (minting : Minted) (P : Compact → Type 0) (some : 0 < K.shards) (later : List Row) (kept : Steady K minting P later) (b : Batch)
+    (txs : List Compact)
     (home : home_of K b.lane < K.coordinators) where
   abbrev J : ℕ → List Record
   J n = journal n (later ++ first_rows K minting)
@@ -64,25 +68,30 @@ module _ (K : Shape) (minting : Minted) (P : Compact → Type 0) (some : 0 < K.s
           (subst (λ ts. MayLock (J (shard_node K s)) b (part K.shards s 0 ts) t) txs_are
           (may_lock K minting P some later kept b home number (preparing phase) (ap is_some prepare) s (of_txs s c) t
           (subst (λ ts. record_of 6 H b ≡ Some (Prepare t b ts)) (sym txs_are) stands)
-          (((all_structure K minting P some later kept).journals (home_of K b.lane)).prepared b phase number).1 ((all_more K minting P some later kept (home_of K b.lane)).in_prepare b phase number).0)) why e;
+          (((all_structure K minting P some later kept).journals (home_of K b.lane)).prepared b phase number).1
+          ((all_more K minting P some later kept (home_of K b.lane)).in_prepare b phase number).0)) why e;
       finish = λ s t os why c phase stands e.
           let named : os ≡ outcomes_of H b = sym (ap outcomes_in stands) in
           finish_grants (J (shard_node K s)) b (decisions os (part K.shards s 0 txs)) t
           (subst (λ q. MayFinish (J (shard_node K s)) b (decisions q (part K.shards s 0 txs)) t) (sym named)
           (subst (λ ts. MayFinish (J (shard_node K s)) b (decisions (outcomes_of H b) (part K.shards s 0 ts)) t) txs_are
           (may_finish K minting P some later kept b home number (committing phase) (ap is_some prepare) s (of_txs s c) t
-          (subst (λ q. record_of 7 H b ≡ Some (Commit t b q)) named stands) ((all_more K minting P some later kept (home_of K b.lane)).in_commit b phase number).0))) why e;
+          (subst (λ q. record_of 7 H b ≡ Some (Commit t b q)) named stands)
+          ((all_more K minting P some later kept (home_of K b.lane)).in_commit b phase number).0))) why e;
       forget = λ s t why c stands e.
           forget_grants (J (shard_node K s)) b t (may_forget K minting P some later kept b home number s (of_txs s c) t stands) why e;
     }
 
-refused : (K : Shape) (b : Batch) (txs : List Compact) (log : Sight) (shards : ℕ → Sight) (node : ℕ) (why : Refused) → Grants K b txs log.seen (λ s. (shards s).seen)
+refused : (K : Shape) (b : Batch) (txs : List Compact) (log : Sight) (shards : ℕ → Sight) (node : ℕ) (why : Refused)
+    → Grants K b txs log.seen (λ s. (shards s).seen)
     → IsCallFault K b txs log shards node (Refuses why) → ⊥
 refused K b txs log shards node why g (to_lock s t is c phase stands have e) =
-    g.lock s t why c phase stands (lock_refuses (shards s).header.shape (shards s).capacity (shards s).seen (record { batch = b; part = part K.shards s 0 txs; cause = t }) (next_lock (shards s).seen b (part K.shards s 0 txs) t) why e)
+    g.lock s t why c phase stands (lock_refuses (shards s).header.shape (shards s).capacity (shards s).seen
+    (record { batch = b; part = part K.shards s 0 txs; cause = t }) (next_lock (shards s).seen b (part K.shards s 0 txs) t) why e)
 refused K b txs log shards node why g (to_decide replies is phase have cause e) = late_refuses _ _ _ why e
 refused K b txs log shards node why g (to_finish s t os is c phase stands have e) =
-    g.finish s t os why c phase stands (stamp_refuses (next_finish (shards s).seen b (decisions os (part K.shards s 0 txs)) t) (Finish (next_stamp (shards s).seen t) b (decisions os (part K.shards s 0 txs))) why e)
+    g.finish s t os why c phase stands (stamp_refuses (next_finish (shards s).seen b (decisions os (part K.shards s 0 txs)) t)
+    (Finish (next_stamp (shards s).seen t) b (decisions os (part K.shards s 0 txs))) why e)
 refused K b txs log shards node why g (to_discard cause is phase have latest e) = late_refuses _ _ _ why e
 refused K b txs log shards node why g (to_forget s t is c phase stands have e) =
     g.forget s t why c stands (stamp_refuses (next_forget (shards s).seen b t) (Forget (next_stamp (shards s).seen t) b) why e)
@@ -94,7 +103,8 @@ grant_law K m logs shards b txs node why some home checked fault =
     (subst (λ T. Grants K b txs (logs (home_of K b.lane)).seen T) at_shards
     (subst (λ L. Grants K b txs L shards_of) at_home
     (grants K m Any some checked.later (rows_of K m (seen_by K logs shards) checked) b txs home fault.stamp
-    (subst (λ L. record_of 6 L b ≡ Some (Prepare fault.stamp b txs)) (sym at_home) fault.prepare) (subst (λ L. (slot L b.lane).number ≡ b.number) (sym at_home) fault.number))))
+    (subst (λ L. record_of 6 L b ≡ Some (Prepare fault.stamp b txs)) (sym at_home) fault.prepare)
+    (subst (λ L. (slot L b.lane).number ≡ b.number) (sym at_home) fault.number))))
     fault.call
   where
     at_home : journal (home_of K b.lane) (checked.later ++ first_rows K m) ≡ (logs (home_of K b.lane)).seen

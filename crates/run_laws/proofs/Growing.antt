@@ -1,5 +1,6 @@
 -- Journals that grow, and what is in flight.
-use Rattle.std.proofs.Common.{◌≡◌, inl, inr, ℕ, ◌<◌, ◌≤◌, Bool, true, false, ◌&&◌, nat_lt, if◌then◌else◌, List, map, length, refl, sym, ap, ◌∙◌, subst, arith}
+use Rattle.std.proofs.Common.{◌≡◌, inl, inr, ℕ, ◌<◌, ◌≤◌, Bool, true, false, ◌&&◌, nat_lt, if◌then◌else◌, List, map, length, refl, sym, ap, ◌∙◌}
+use Rattle.std.proofs.Common.{subst, arith}
 use Rattle.std.proofs.lemmas.List.{get_or_past, get_or-map, length-map}
 use Rattle.cbdc_model.specs.Records.{Shape, Compact}
 use Rattle.cbdc_model.specs.Causes.{IsCaused}
@@ -50,7 +51,8 @@ data Place (w : World) (n : ℕ) : Type 0 where
 place : (w : World) (n : ℕ) → Place w n
 place w n = elim (nat_lt n (length w)) as (λ t. nat_lt n (length w) ≡ t → Place w n) [
   | true ↦ λ t. inside (up_node w n (is_less n (length w) t))
-  | false ↦ λ t. beyond (get_or_past (all_up w) n no_node (longer (length (all_up w)) (length w) n (up_length w) (is_not n (length w) t))) (get_or_past w n no_node (is_not n (length w) t))
+  | false ↦ λ t. beyond (get_or_past (all_up w) n no_node (longer (length (all_up w)) (length w) n (up_length w) (is_not n (length w) t)))
+      (get_or_past w n no_node (is_not n (length w) t))
 ] refl
   where
     is_less : (n m : ℕ) → nat_lt n m ≡ true → n < m
@@ -71,7 +73,8 @@ same_flight w n = elim (place w n) [ inside e ↦ ap (λ u. u.flight) e | beyond
 same_counted : (counts : ℕ → Bool) (w : World) (n : ℕ) → opened counts (all_up w) n ≡ with_flights counts w n
 same_counted counts w n = elim (place w n) [
   | inside e ↦ ap (λ u. if u.up && counts n then flushed u.flight u.journal else u.journal) e
-  | beyond e f ↦ ap (λ u. if u.up && counts n then flushed u.flight u.journal else u.journal) e ∙ nothing (counts n) ∙ sym (ap (λ u. if counts n then flushed u.flight u.journal else u.journal) f)
+  | beyond e f ↦ ap (λ u. if u.up && counts n then flushed u.flight u.journal else u.journal) e ∙ nothing (counts n)
+      ∙ sym (ap (λ u. if counts n then flushed u.flight u.journal else u.journal) f)
 ]
   where
     nothing : (c : Bool) → no_node.journal ≡ (if c then flushed no_node.flight no_node.journal else no_node.journal)
@@ -94,10 +97,12 @@ module _ (K : Shape) (mint : List Output) (subs : List FullTx) (w : World) (shar
   }
 
   pub all_counted : (counts : ℕ → Bool) → KeptWorld K mint subs w → KeptJournals K mint subs (with_flights counts w)
-  all_counted counts kept = by_opened (open_all K (minted mint) P shards counts (all_up w) (steady_up (to_steady K mint subs w kept)) (up_length w ∙ kept.size))
+  all_counted counts kept = by_opened (open_all K (minted mint) P shards counts (all_up w) (steady_up (to_steady K mint subs w kept))
+      (up_length w ∙ kept.size))
     where
       by_opened : (v : World) × Opened K (minted mint) P shards counts (all_up w) v → KeptJournals K mint subs (with_flights counts w)
-      by_opened (v, o) = subst (λ J. KeptJournals K mint subs J) (λ i n. (o.journals_are n ∙ same_counted counts w n) i) (to_kept K mint subs v o.is_quiet.size o.is_quiet.kept).journals_kept
+      by_opened (v, o) = subst (λ J. KeptJournals K mint subs J) (λ i n. (o.journals_are n ∙ same_counted counts w n) i)
+          (to_kept K mint subs v o.is_quiet.size o.is_quiet.kept).journals_kept
 
 pub counted_law : CountedLaw
 counted_law K mint subs w counts shards kept = all_counted K mint subs w shards counts kept

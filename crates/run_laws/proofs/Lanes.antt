@@ -42,16 +42,21 @@ module _ (s : Scale) where
 
   pub kept_same : (J N : List Record) (lane : ℕ) → IsSameLane J N lane → kept_for N lane ≡ kept_for J lane
   kept_same J N lane same =
-      let room_at : Slot → ℕ = λ x. s.kept x.phase (length (lock_of N (record { lane = lane; number = x.number }))) (length (txs_of N (record { lane = lane; number = x.number }))) in
+      let room_at : Slot → ℕ = λ x. s.kept x.phase (length (lock_of N (record { lane = lane; number = x.number })))
+      (length (txs_of N (record { lane = lane; number = x.number }))) in
       let n = (slot J lane).number in
       ap room_at same.slots ∙ ap₂ (λ (m k : ℕ). s.kept (slot J lane).phase m k) (ap length (same.locks n)) (ap length (same.txs n))
 
   -- by its phase and its batch
-  pub kept_in : (J : List Record) (b : Batch) (p : Phase) → slot J b.lane ≡ record { number = b.number; phase = p } → kept_for J b.lane ≡ s.kept p (length (lock_of J b)) (length (txs_of J b))
-  kept_in J b p e = ap (λ (x : Slot). s.kept x.phase (length (lock_of J (record { lane = b.lane; number = x.number }))) (length (txs_of J (record { lane = b.lane; number = x.number })))) e
+  pub kept_in : (J : List Record) (b : Batch) (p : Phase) → slot J b.lane ≡ record { number = b.number; phase = p }
+      → kept_for J b.lane ≡ s.kept p (length (lock_of J b)) (length (txs_of J b))
+  kept_in J b p e = ap (λ (x : Slot). s.kept x.phase (length (lock_of J (record { lane = b.lane; number = x.number })))
+      (length (txs_of J (record { lane = b.lane; number = x.number })))) e
 
-  pub slot_parts : (J : List Record) (b : Batch) (p : Phase) → (slot J b.lane).phase ≡ p → (slot J b.lane).number ≡ b.number → slot J b.lane ≡ record { number = b.number; phase = p }
+  pub slot_parts : (J : List Record) (b : Batch) (p : Phase) → (slot J b.lane).phase ≡ p → (slot J b.lane).number ≡ b.number
+      → slot J b.lane ≡ record { number = b.number; phase = p }
   slot_parts J b p e n = λ i. record { number = n i; phase = e i }
 
   pub kept_idle : Fair s → (J : List Record) (lane : ℕ) → (slot J lane).phase ≡ Idle → kept_for J lane ≡ 0
-  kept_idle fair J lane e = ap (λ (p : Phase). s.kept p (length (lock_of J (open_batch J lane))) (length (txs_of J (open_batch J lane)))) e ∙ fair.idle (length (lock_of J (open_batch J lane))) (length (txs_of J (open_batch J lane)))
+  kept_idle fair J lane e = ap (λ (p : Phase). s.kept p (length (lock_of J (open_batch J lane))) (length (txs_of J (open_batch J lane)))) e
+      ∙ fair.idle (length (lock_of J (open_batch J lane))) (length (txs_of J (open_batch J lane)))

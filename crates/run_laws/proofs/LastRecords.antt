@@ -1,6 +1,7 @@
 -- A lane's last record at a node where its slot is not idle: which nodes have it, its stamp's bound, and the records that stand.
 use Rattle.std.proofs.Common.{◌≡◌, ℕ, ◌^◌, ◌<◌, ◌≤◌, true, List, Some, is_some, sym, ap, ◌∙◌, arith}
-use Rattle.cbdc_model.specs.Records.{Header, Batch, Record, record_of, stamp_of, txs_in, txs_of, outcomes_in, outcomes_of, Genesis, Lock, Finish, Start, Prepare, Commit, Discard}
+use Rattle.cbdc_model.specs.Records.{Header, Batch, Record, record_of, stamp_of, txs_in, txs_of, outcomes_in, outcomes_of, Genesis, Lock, Finish}
+use Rattle.cbdc_model.specs.Records.{Start, Prepare, Commit, Discard}
 use Rattle.cbdc_model.specs.Slots.{Phase, Idle, InLock, InFinish, InPrepare, InCommit, InDiscard}
 use Rattle.cbdc_model.specs.Grammar.{IsInGrammar}
 use Rattle.ledger_laws.proofs.ByKind.{found_prepare, found_commit, found_discard}

@@ -1,6 +1,7 @@
 -- A Lock that is still to come may be written, where the stamp that it needs is not above 2^62, whatever stamps stand elsewhere.
 use Rattle.std.proofs.Common.{◌≡◌, ℕ, suc, ◌^◌, ◌<◌, ◌≤◌, ◌/◌, max, true, false, ◌&&◌, ◌==◌, List, [], ◌++◌, Some, None, is_some, refl, ap}
-use Rattle.cbdc_model.specs.Records.{Digest, Shape, Batch, Compact, Record, Row, journal, record_of, kind_of, is_of, txs_in, txs_of, stamp_of, last_stamp, Prepare}
+use Rattle.cbdc_model.specs.Records.{Digest, Shape, Batch, Compact, Record, Row, journal, record_of, kind_of, is_of, txs_in, txs_of, stamp_of}
+use Rattle.cbdc_model.specs.Records.{last_stamp, Prepare}
 use Rattle.cbdc_model.specs.Slots.{slot}
 use Rattle.cbdc_model.specs.Ranges.{shard_node, part, is_no_part, Concerned}
 use Rattle.cbdc_model.specs.Grammar.{IsInGrammar}

@@ -16,7 +16,8 @@ locks-append [] fs h g = g
 locks-append (e ∷ es) fs h g = (h.0, locks-append es fs h.1 g)
 
 module _ (K : Shape) (minting : Minted) (P : Compact → Type 0) (shards : 0 < K.shards) (lanes : 0 < K.lanes)
-    (Inv : World → Type 0) (keeps : (v u : World) (s lane : ℕ) → s < K.shards → lane < K.coordinators * K.lanes → lacks_lock K (journals v) s lane ≡ true
+    (Inv : World → Type 0) (keeps : (v u : World) (s lane : ℕ) → s < K.shards → lane < K.coordinators * K.lanes
+    → lacks_lock K (journals v) s lane ≡ true
     → LockStep K minting P shards lanes v u s lane → Inv v → Inv u) where
   -- Locks alone lead to a world
   pub record Going (w : World) : Type 0 where
@@ -26,7 +27,8 @@ module _ (K : Shape) (minting : Minted) (P : Compact → Type 0) (shards : 0 < K
     pub locks : BeginLocks events
     pub is_quiet : IsQuiet K minting P shards new
     pub holds : Inv new
-    pub fewer_lack : (s lane : ℕ) → lane < K.coordinators * K.lanes → lacks_lock K (journals new) s lane ≡ true → lacks_lock K (journals w) s lane ≡ true
+    pub fewer_lack : (s lane : ℕ) → lane < K.coordinators * K.lanes → lacks_lock K (journals new) s lane ≡ true
+        → lacks_lock K (journals w) s lane ≡ true
 
   -- to one with a property, or to one that is stuck
   pub data Comes (w : World) (Q : World → Type 0) : Type 0 where
@@ -47,7 +49,8 @@ module _ (K : Shape) (minting : Minted) (P : Compact → Type 0) (shards : 0 < K
     fewer_lack = λ s lane lt l. g.fewer_lack s lane lt (h.fewer_lack s lane lt l);
   }
 
-  then_on : (w : World) (Q R S : World → Type 0) → Comes w Q → ((g : Going w) → Q g.new → Comes g.new R) → ((g : Going w) → Q g.new → (h : Going g.new) → R h.new → S h.new) → Comes w S
+  then_on : (w : World) (Q R S : World → Type 0) → Comes w Q → ((g : Going w) → Q g.new → Comes g.new R)
+      → ((g : Going w) → Q g.new → (h : Going g.new) → R h.new → S h.new) → Comes w S
   then_on w Q R S (sticks g stuck) f both = sticks g stuck
   then_on w Q R S (arrives g q) f both = second (f g q)
     where
@@ -59,14 +62,23 @@ module _ (K : Shape) (minting : Minted) (P : Compact → Type 0) (shards : 0 < K
   stays_false {a} {b} h f = not_true b (λ t. true_false a (h t) f)
 
   -- what one lane lacks at one shard
-  one_lock : (w : World) → IsQuiet K minting P shards w → Inv w → (s lane : ℕ) → s < K.shards → lane < K.coordinators * K.lanes → Comes w (λ u. lacks_lock K (journals u) s lane ≡ false)
-  one_lock w q i s lane ls ll = elim (lacks_lock K (journals w) s lane) as (λ c. lacks_lock K (journals w) s lane ≡ c → Comes w (λ u. lacks_lock K (journals u) s lane ≡ false)) [
-    | false ↦ λ f. arrives (stay w q i) f
-    | true ↦ λ t. elim (nat_lt (before_lock K (journals w) s lane) (2 ^ 62)) as (λ c. nat_lt (before_lock K (journals w) s lane) (2 ^ 62) ≡ c → Comes w (λ u. lacks_lock K (journals u) s lane ≡ false)) [
-      | true ↦ λ e. written t (write_lock K minting P shards lanes w q s lane ls t (early (before_lock K (journals w) s lane) e))
-      | false ↦ λ e. sticks (stay w q i) (record { shard = s; lane = lane; of_shape = (ls, ll); lacks = t; needs = late (before_lock K (journals w) s lane) e })
-    ] refl
-  ] refl
+  one_lock : (w : World) → IsQuiet K minting P shards w → Inv w → (s lane : ℕ) → s < K.shards → lane < K.coordinators * K.lanes
+      → Comes w (λ u. lacks_lock K (journals u) s lane ≡ false)
+  one_lock w q i s lane ls ll = elim (lacks_lock K (journals w) s lane) as
+      (λ c. lacks_lock K (journals w) s lane ≡ c → Comes w (λ u. lacks_lock K (journals u) s lane ≡ false)) [
+        | false ↦ λ f. arrives (stay w q i) f
+        | true ↦ λ t. elim (nat_lt (before_lock K (journals w) s lane) (2 ^ 62)) as
+            (λ c. nat_lt (before_lock K (journals w) s lane) (2 ^ 62) ≡ c → Comes w (λ u. lacks_lock K (journals u) s lane ≡ false)) [
+              | true ↦ λ e. written t (write_lock K minting P shards lanes w q s lane ls t (early (before_lock K (journals w) s lane) e))
+              | false ↦ λ e. sticks (stay w q i) (record {
+                shard = s;
+                lane = lane;
+                of_shape = (ls, ll);
+                lacks = t;
+                needs = late (before_lock K (journals w) s lane) e;
+              })
+            ] refl
+      ] refl
     where
       early : (n : ℕ) → nat_lt n (2 ^ 62) ≡ true → suc n ≤ 2 ^ 62
       early n e = grind arith
@@ -74,7 +86,8 @@ module _ (K : Shape) (minting : Minted) (P : Compact → Type 0) (shards : 0 < K
       late : (n : ℕ) → nat_lt n (2 ^ 62) ≡ false → 2 ^ 62 < suc n
       late n e = grind arith
 
-      written : lacks_lock K (journals w) s lane ≡ true → (u : World) × LockStep K minting P shards lanes w u s lane → Comes w (λ u. lacks_lock K (journals u) s lane ≡ false)
+      written : lacks_lock K (journals w) s lane ≡ true → (u : World) × LockStep K minting P shards lanes w u s lane
+          → Comes w (λ u. lacks_lock K (journals u) s lane ≡ false)
       written t (u, step) = arrives (record {
         new = u;
         events = Begin (shard_node K s) step.r ∷ End (shard_node K s) ∷ [];
@@ -92,7 +105,8 @@ module _ (K : Shape) (minting : Minted) (P : Compact → Type 0) (shards : 0 < K
   abbrev Has : ℕ → ℕ → World → Type 0
   Has lane n u = (s : ℕ) → s < n → lacks_lock K (journals u) s lane ≡ false
 
-  shards_of : (w : World) → IsQuiet K minting P shards w → Inv w → (lane : ℕ) → lane < K.coordinators * K.lanes → (n : ℕ) → n ≤ K.shards → Comes w (Has lane n)
+  shards_of : (w : World) → IsQuiet K minting P shards w → Inv w → (lane : ℕ) → lane < K.coordinators * K.lanes → (n : ℕ) → n ≤ K.shards
+      → Comes w (Has lane n)
   shards_of w q i lane ll zero le = arrives (stay w q i) (λ s lt. absurd (omega arith))
   shards_of w q i lane ll (suc n) le =
       then_on w (Has lane n) (λ u. lacks_lock K (journals u) n lane ≡ false) (Has lane (suc n)) (shards_of w q i lane ll n (omega arith))
@@ -106,7 +120,8 @@ module _ (K : Shape) (minting : Minted) (P : Compact → Type 0) (shards : 0 < K
   abbrev AllHas : ℕ → World → Type 0
   AllHas n u = (lane : ℕ) → lane < n → Has lane K.shards u
 
-  pub lanes_of : (w : World) → IsQuiet K minting P shards w → Inv w → (n : ℕ) → n ≤ K.coordinators * K.lanes → Comes w (λ u. (lane : ℕ) → lane < n → (s : ℕ) → s < K.shards → lacks_lock K (journals u) s lane ≡ false)
+  pub lanes_of : (w : World) → IsQuiet K minting P shards w → Inv w → (n : ℕ) → n ≤ K.coordinators * K.lanes
+      → Comes w (λ u. (lane : ℕ) → lane < n → (s : ℕ) → s < K.shards → lacks_lock K (journals u) s lane ≡ false)
   lanes_of w q i zero le = arrives (stay w q i) (λ lane lt. absurd (omega arith))
   lanes_of w q i (suc n) le =
       then_on w (AllHas n) (Has n K.shards) (AllHas (suc n)) (lanes_of w q i n (omega arith))

@@ -1,7 +1,9 @@
 -- Along each journal of a history: what it found stays, and at a coordinator a lane's number is that of its Prepares.
-use Rattle.std.proofs.Common.{◌≡◌, ℕ, ◌+◌, ◌/◌, ◌<◌, ◌≤◌, true, false, ◌==◌, if◌then◌else◌, List, [], ◌∷◌, ◌++◌, length, reverse, is_some, refl, sym, ap, ◌∙◌, subst, arith, append_assoc}
+use Rattle.std.proofs.Common.{◌≡◌, ℕ, ◌+◌, ◌/◌, ◌<◌, ◌≤◌, true, false, ◌==◌, if◌then◌else◌, List, [], ◌∷◌, ◌++◌, length, reverse, is_some, refl, sym}
+use Rattle.std.proofs.Common.{ap, ◌∙◌, subst, arith, append_assoc}
 use Rattle.std.proofs.lemmas.List.{reverse-append, reverse-reverse, append_cancel_right, length-reverse, length-append}
-use Rattle.cbdc_model.specs.Records.{Shape, Batch, Compact, Record, Row, journal, record_of, Genesis, Lock, Finish, Forget, Start, Prepare, Commit, Discard, Done}
+use Rattle.cbdc_model.specs.Records.{Shape, Batch, Compact, Record, Row, journal, record_of, Genesis, Lock, Finish, Forget, Start, Prepare, Commit}
+use Rattle.cbdc_model.specs.Records.{Discard, Done}
 use Rattle.cbdc_model.specs.Slots.{Slot, Phase, slot, Idle, InLock, InFinish, InPrepare, InCommit, InDiscard}
 use Rattle.cbdc_model.specs.Ranges.{home_of}
 use Rattle.cbdc_model.specs.History.{Minted, first_rows}
@@ -32,15 +34,17 @@ other_number m n apart = grind arith
 -- ---- Prepares of a lane
 
 prepared_on : (lane : ℕ) (r : Record) (A B : List (List Compact)) → prepared_before lane r (A ++ B) ≡ prepared_before lane r A ++ B
-prepared_on lane (Prepare stamp b txs) A B = elim (b.lane == lane) as (λ c. (if c then txs ∷ (A ++ B) else A ++ B) ≡ (if c then txs ∷ A else A) ++ B) [
-  | true ↦ refl
-  | false ↦ refl
-]
+prepared_on lane (Prepare stamp b txs) A B = elim (b.lane == lane)
+    as (λ c. (if c then txs ∷ (A ++ B) else A ++ B) ≡ (if c then txs ∷ A else A) ++ B) [
+      | true ↦ refl
+      | false ↦ refl
+    ]
 prepared_on lane other A B = refl
 
 pub prepared_more : (lane : ℕ) (newer older : List Record) → prepared lane (newer ++ older) ≡ prepared lane newer ++ prepared lane older
 prepared_more lane [] older = refl
-prepared_more lane (r ∷ newer) older = ap (prepared_before lane r) (prepared_more lane newer older) ∙ prepared_on lane r (prepared lane newer) (prepared lane older)
+prepared_more lane (r ∷ newer) older = ap (prepared_before lane r) (prepared_more lane newer older)
+    ∙ prepared_on lane r (prepared lane newer) (prepared lane older)
 
 pub first_prepared : (lane : ℕ) (J : List Record) → AllFirst J → prepared lane J ≡ []
 first_prepared lane [] f = refl
@@ -58,7 +62,8 @@ first_slot lane (Start header ∷ J) f = first_slot lane J f.1
 first_slot lane (other ∷ J) f = absurd f.0
 
 -- the list's halves where one item stands between
-pub turned : {A : Type 0} (newer older : List A) (x : A) (done : List A) → reverse done ≡ newer ++ x ∷ older → done ≡ reverse older ++ x ∷ reverse newer
+pub turned : {A : Type 0} (newer older : List A) (x : A) (done : List A) → reverse done ≡ newer ++ x ∷ older
+    → done ≡ reverse older ++ x ∷ reverse newer
 turned newer older x done e =
     sym (reverse-reverse done) ∙ ap reverse e ∙ reverse-append newer (x ∷ older) ∙ ap (λ l. l ++ reverse newer) (reverse-append (x ∷ []) older)
     ∙ append_assoc (reverse older) (x ∷ []) (reverse newer)
@@ -103,16 +108,22 @@ module _ (K : Shape) (m : Minted) (P : Compact → Type 0) (some : 0 < K.shards)
   further n V begins Q base step newer [] e = base
   further n V begins Q base step newer (r ∷ more) e =
       let below : Q (more ++ V) = further n V begins Q base step (newer ++ r ∷ []) more (e ∙ shifted newer more r V) in
-      step newer (more ++ V) r e (more, refl) (lists.each n newer (more ++ V) r e (end_trans (first_of K m n) V (more ++ V) begins (more, refl))).0 below
+      step newer (more ++ V) r e (more, refl) (lists.each n newer (more ++ V) r e (end_trans (first_of K m n) V (more ++ V) begins (more, refl))).0
+      below
 
   pub grown : (n : ℕ) (Q : List Record → Type 0) → Q (first_of K m n) → ((rest : List Record) (r : Record) → Next K n rest r → Q rest → Q (r ∷ rest))
       → (V : List Record) → IsEnd (first_of K m n) V → IsEnd V (J n) → Q V
   grown n Q base step V begins ends =
-      subst Q (sym begins.1) (further n (first_of K m n) (end_self (first_of K m n)) Q base (λ newer rest r e h next q. step rest r next q) ends.0 begins.0 (ends.1 ∙ ap (λ L. ends.0 ++ L) begins.1))
+      subst Q (sym begins.1) (further n (first_of K m n) (end_self (first_of K m n)) Q base (λ newer rest r e h next q. step rest r next q) ends.0
+      begins.0 (ends.1 ∙ ap (λ L. ends.0 ++ L) begins.1))
 
   pub fine : (n : ℕ) (V : List Record) → IsEnd (first_of K m n) V → IsEnd V (J n) → Fine V
   fine n V begins ends = grown n Fine
-      (record { ok = (all_structure K m P some [] tt).journals n; more = all_more K m P some [] tt n; once = first_once (first_of K m n) (all_are_first n) })
+      (record {
+        ok = (all_structure K m P some [] tt).journals n;
+        more = all_more K m P some [] tt n;
+        once = first_once (first_of K m n) (all_are_first n);
+      })
       (λ rest r next below. record {
         ok = next_ok K n rest below.ok r next;
         more = next_more K n rest below.ok below.more r next;
@@ -121,7 +132,8 @@ module _ (K : Shape) (m : Minted) (P : Compact → Type 0) (some : 0 < K.shards)
       V begins ends
 
   -- what a beginning found is found in the whole
-  pub found_in : (n : ℕ) (V : List Record) → IsEnd V (J n) → (kind : ℕ) (b : Batch) → is_some (record_of kind V b) ≡ true → record_of kind V b ≡ record_of kind (J n) b
+  pub found_in : (n : ℕ) (V : List Record) → IsEnd V (J n) → (kind : ℕ) (b : Batch) → is_some (record_of kind V b) ≡ true
+      → record_of kind V b ≡ record_of kind (J n) b
   found_in n V ends kind b h =
       let whole : Once (J n) = (fine n (J n) (lists.begins n) (end_self (J n))).once in
       found_stays ends.0 V (subst (λ L. Once L) ends.1 whole) kind b h ∙ ap (λ L. record_of kind L b) (sym ends.1)
@@ -130,22 +142,27 @@ module _ (K : Shape) (m : Minted) (P : Compact → Type 0) (some : 0 < K.shards)
   abbrev left : ℕ → List Record → Batch → Phase → Slot
   left lane rest b p = if b.lane == lane then (record { number = b.number; phase = p }) else slot rest lane
 
-  number_kept : (lane : ℕ) (rest : List Record) (b : Batch) (p : Phase) → (slot rest b.lane).number ≡ b.number → (slot rest lane).number ≡ length (prepared lane rest)
+  number_kept : (lane : ℕ) (rest : List Record) (b : Batch) (p : Phase) → (slot rest b.lane).number ≡ b.number
+      → (slot rest lane).number ≡ length (prepared lane rest)
       → (left lane rest b p).number ≡ length (prepared lane rest)
   number_kept lane rest b p same h = elim (b.lane == lane)
-      as (λ c. (b.lane == lane) ≡ c → (if c then (record { number = b.number; phase = p }) else slot rest lane).number ≡ length (prepared lane rest)) [
+      as (λ c. (b.lane == lane) ≡ c
+      → (if c then (record { number = b.number; phase = p }) else slot rest lane).number ≡ length (prepared lane rest)) [
         | true ↦ λ e. sym same ∙ ap (λ l. (slot rest l).number) (lane_is b.lane lane e) ∙ h
         | false ↦ λ e. h
       ] refl
 
   -- at a coordinator
-  number_step : (n lane : ℕ) → n < K.coordinators → (rest : List Record) (r : Record) → Next K n rest r → (slot rest lane).number ≡ length (prepared lane rest)
+  number_step : (n lane : ℕ) → n < K.coordinators → (rest : List Record) (r : Record) → Next K n rest r
+      → (slot rest lane).number ≡ length (prepared lane rest)
       → (slot (r ∷ rest) lane).number ≡ length (prepared lane (r ∷ rest))
   number_step n lane low rest (Genesis header hs) next h = absurd next
   number_step n lane low rest (Start header) next h = absurd next
   number_step n lane low rest (Prepare stamp b txs) next h = elim (b.lane == lane)
-      as (λ c. (b.lane == lane) ≡ c → (if c then (record { number = b.number; phase = InPrepare }) else slot rest lane).number ≡ length (if c then txs ∷ prepared lane rest else prepared lane rest)) [
-        | true ↦ λ e. (let there : (slot rest b.lane).number ≡ (slot rest lane).number = ap (λ l. (slot rest l).number) (lane_is b.lane lane e) in omega (arith, next.4, there, h))
+      as (λ c. (b.lane == lane) ≡ c → (if c then (record { number = b.number; phase = InPrepare }) else slot rest lane).number
+      ≡ length (if c then txs ∷ prepared lane rest else prepared lane rest)) [
+        | true ↦ λ e. (let there : (slot rest b.lane).number ≡ (slot rest lane).number = ap (λ l. (slot rest l).number) (lane_is b.lane lane e) in
+            omega (arith, next.4, there, h))
         | false ↦ λ e. h
       ] refl
   number_step n lane low rest (Commit stamp b os) next h = number_kept lane rest b InCommit next.4 h
@@ -154,20 +171,24 @@ module _ (K : Shape) (m : Minted) (P : Compact → Type 0) (some : 0 < K.shards)
   number_step n lane low rest other next h = absurd (omega (arith, low, next.1.0))
 
   -- a lane's number is how often it has prepared
-  pub number_is : (n lane : ℕ) → n < K.coordinators → (V : List Record) → IsEnd (first_of K m n) V → IsEnd V (J n) → (slot V lane).number ≡ length (prepared lane V)
+  pub number_is : (n lane : ℕ) → n < K.coordinators → (V : List Record) → IsEnd (first_of K m n) V → IsEnd V (J n)
+      → (slot V lane).number ≡ length (prepared lane V)
   number_is n lane low V begins ends =
       grown n (λ V. (slot V lane).number ≡ length (prepared lane V))
-      (ap (λ s. s.number) (first_slot lane (first_of K m n) (all_are_first n)) ∙ sym (ap length (first_prepared lane (first_of K m n) (all_are_first n))))
+      (ap (λ s. s.number) (first_slot lane (first_of K m n) (all_are_first n))
+      ∙ sym (ap length (first_prepared lane (first_of K m n) (all_are_first n))))
       (λ rest r next h. number_step n lane low rest r next h) V begins ends
 
-  coord_kept : (n lane : ℕ) (rest : List Record) (b : Batch) (p : Phase) → IsCoordSlot K n b.lane p → IsCoordSlot K n lane (slot rest lane).phase → IsCoordSlot K n lane (left lane rest b p).phase
+  coord_kept : (n lane : ℕ) (rest : List Record) (b : Batch) (p : Phase) → IsCoordSlot K n b.lane p → IsCoordSlot K n lane (slot rest lane).phase
+      → IsCoordSlot K n lane (left lane rest b p).phase
   coord_kept n lane rest b p own h = elim (b.lane == lane)
       as (λ c. (b.lane == lane) ≡ c → IsCoordSlot K n lane (if c then (record { number = b.number; phase = p }) else slot rest lane).phase) [
         | true ↦ λ e. subst (λ l. IsCoordSlot K n l p) (lane_is b.lane lane e) own
         | false ↦ λ e. h
       ] refl
 
-  coord_step : (n lane : ℕ) → n < K.coordinators → (rest : List Record) (r : Record) → Next K n rest r → IsCoordSlot K n lane (slot rest lane).phase → IsCoordSlot K n lane (slot (r ∷ rest) lane).phase
+  coord_step : (n lane : ℕ) → n < K.coordinators → (rest : List Record) (r : Record) → Next K n rest r → IsCoordSlot K n lane (slot rest lane).phase
+      → IsCoordSlot K n lane (slot (r ∷ rest) lane).phase
   coord_step n lane low rest (Genesis header hs) next h = absurd next
   coord_step n lane low rest (Start header) next h = absurd next
   coord_step n lane low rest (Prepare stamp b txs) next h = coord_kept n lane rest b InPrepare next.2 h
@@ -176,19 +197,23 @@ module _ (K : Shape) (m : Minted) (P : Compact → Type 0) (some : 0 < K.shards)
   coord_step n lane low rest (Done stamp b) next h = coord_kept n lane rest b Idle tt h
   coord_step n lane low rest other next h = absurd (omega (arith, low, next.1.0))
 
-  pub coord_slot : (n lane : ℕ) → n < K.coordinators → (V : List Record) → IsEnd (first_of K m n) V → IsEnd V (J n) → IsCoordSlot K n lane (slot V lane).phase
+  pub coord_slot : (n lane : ℕ) → n < K.coordinators → (V : List Record) → IsEnd (first_of K m n) V → IsEnd V (J n)
+      → IsCoordSlot K n lane (slot V lane).phase
   coord_slot n lane low V begins ends =
       grown n (λ V. IsCoordSlot K n lane (slot V lane).phase)
       (subst (λ s. IsCoordSlot K n lane s.phase) (sym (first_slot lane (first_of K m n) (all_are_first n))) tt)
       (λ rest r next h. coord_step n lane low rest r next h) V begins ends
 
-  shard_kept : (lane : ℕ) (rest : List Record) (b : Batch) (p : Phase) → IsShardSlot p → IsShardSlot (slot rest lane).phase → IsShardSlot (left lane rest b p).phase
-  shard_kept lane rest b p own h = elim (b.lane == lane) as (λ c. IsShardSlot (if c then (record { number = b.number; phase = p }) else slot rest lane).phase) [
-    | true ↦ own
-    | false ↦ h
-  ]
+  shard_kept : (lane : ℕ) (rest : List Record) (b : Batch) (p : Phase) → IsShardSlot p → IsShardSlot (slot rest lane).phase
+      → IsShardSlot (left lane rest b p).phase
+  shard_kept lane rest b p own h = elim (b.lane == lane) as
+      (λ c. IsShardSlot (if c then (record { number = b.number; phase = p }) else slot rest lane).phase) [
+        | true ↦ own
+        | false ↦ h
+      ]
 
-  shard_step : (n lane : ℕ) → K.coordinators ≤ n → (rest : List Record) (r : Record) → Next K n rest r → IsShardSlot (slot rest lane).phase → IsShardSlot (slot (r ∷ rest) lane).phase
+  shard_step : (n lane : ℕ) → K.coordinators ≤ n → (rest : List Record) (r : Record) → Next K n rest r → IsShardSlot (slot rest lane).phase
+      → IsShardSlot (slot (r ∷ rest) lane).phase
   shard_step n lane high rest (Genesis header hs) next h = absurd next
   shard_step n lane high rest (Start header) next h = absurd next
   shard_step n lane high rest (Lock stamp b es) next h = shard_kept lane rest b InLock tt h
@@ -201,13 +226,17 @@ module _ (K : Shape) (m : Minted) (P : Compact → Type 0) (some : 0 < K.shards)
       grown n (λ V. IsShardSlot (slot V lane).phase) (subst (λ s. IsShardSlot s.phase) (sym (first_slot lane (first_of K m n) (all_are_first n))) tt)
       (λ rest r next h. shard_step n lane high rest r next h) V begins ends
 
-  up : (lane : ℕ) (rest : List Record) (b : Batch) (p : Phase) → (slot rest b.lane).number ≤ b.number → (slot rest lane).number ≤ (left lane rest b p).number
-  up lane rest b p le = elim (b.lane == lane) as (λ c. (b.lane == lane) ≡ c → (slot rest lane).number ≤ (if c then (record { number = b.number; phase = p }) else slot rest lane).number) [
-    | true ↦ λ e. (let there : (slot rest b.lane).number ≡ (slot rest lane).number = ap (λ l. (slot rest l).number) (lane_is b.lane lane e) in omega (arith, le, there))
-    | false ↦ λ e. omega arith
-  ] refl
+  up : (lane : ℕ) (rest : List Record) (b : Batch) (p : Phase) → (slot rest b.lane).number ≤ b.number
+      → (slot rest lane).number ≤ (left lane rest b p).number
+  up lane rest b p le = elim (b.lane == lane) as (λ c. (b.lane == lane) ≡ c
+      → (slot rest lane).number ≤ (if c then (record { number = b.number; phase = p }) else slot rest lane).number) [
+        | true ↦ λ e. (let there : (slot rest b.lane).number ≡ (slot rest lane).number = ap (λ l. (slot rest l).number) (lane_is b.lane lane e) in
+            omega (arith, le, there))
+        | false ↦ λ e. omega arith
+      ] refl
 
-  level : (lane : ℕ) (rest : List Record) (b : Batch) (p : Phase) → (slot rest b.lane).number ≡ b.number → (slot rest lane).number ≤ (left lane rest b p).number
+  level : (lane : ℕ) (rest : List Record) (b : Batch) (p : Phase) → (slot rest b.lane).number ≡ b.number
+      → (slot rest lane).number ≤ (left lane rest b p).number
   level lane rest b p same = up lane rest b p (omega (arith, same))
 
   -- a lane's number never falls
@@ -221,11 +250,13 @@ module _ (K : Shape) (m : Minted) (P : Compact → Type 0) (some : 0 < K.shards)
   rises n lane rest (Done stamp b) next = level lane rest b Idle next.4
   rises n lane rest other next = absurd next
 
-  pub number_grows : (n lane : ℕ) (V W : List Record) → IsEnd (first_of K m n) V → IsEnd V W → IsEnd W (J n) → (slot V lane).number ≤ (slot W lane).number
+  pub number_grows : (n lane : ℕ) (V W : List Record) → IsEnd (first_of K m n) V → IsEnd V W → IsEnd W (J n)
+      → (slot V lane).number ≤ (slot W lane).number
   number_grows n lane V W begins more ends =
       subst (λ L. (slot V lane).number ≤ (slot L lane).number) (sym more.1)
       (further n V begins (λ L. (slot V lane).number ≤ (slot L lane).number) (omega arith)
-      (λ newer rest r e h next le. (let up : (slot rest lane).number ≤ (slot (r ∷ rest) lane).number = rises n lane rest r next in omega (arith, le, up)))
+      (λ newer rest r e h next le. (let up : (slot rest lane).number ≤ (slot (r ∷ rest) lane).number = rises n lane rest r next in
+      omega (arith, le, up)))
       ends.0 more.0 (ends.1 ∙ ap (λ L. ends.0 ++ L) more.1))
 
   -- a Prepare behind journal V is that of the piece that its number counts
@@ -235,7 +266,8 @@ module _ (K : Shape) (m : Minted) (P : Compact → Type 0) (some : 0 < K.shards)
     pub parts : done ≡ front ++ txs ∷ back
     pub counts : length front + (slot V lane).number ≡ (slot rest lane).number
 
-  pub piece_there : (lane : ℕ) → home_of K lane < K.coordinators → (V newer rest : List Record) (stamp : ℕ) (b : Batch) (txs : List Compact) (done : List (List Compact))
+  pub piece_there : (lane : ℕ) → home_of K lane < K.coordinators
+      → (V newer rest : List Record) (stamp : ℕ) (b : Batch) (txs : List Compact) (done : List (List Compact))
       → IsEnd (first_of K m (home_of K lane)) V → IsEnd V rest → J (home_of K lane) ≡ newer ++ Prepare stamp b txs ∷ rest → b.lane ≡ lane
       → prepared lane (J (home_of K lane)) ≡ reverse done ++ prepared lane V → Piece lane V rest done txs
   piece_there lane low V newer rest stamp b txs done begins h e l all =
@@ -244,14 +276,18 @@ module _ (K : Shape) (m : Minted) (P : Compact → Type 0) (some : 0 < K.shards)
       let head : prepared lane (Prepare stamp b txs ∷ rest) ≡ txs ∷ prepared lane rest = rw test refl in
       let below : prepared lane rest ≡ prepared lane h.0 ++ prepared lane V = ap (prepared lane) h.1 ∙ prepared_more lane h.0 V in
       let whole : prepared lane (J n) ≡ prepared lane newer ++ (txs ∷ (prepared lane h.0 ++ prepared lane V)) =
-      ap (prepared lane) e ∙ prepared_more lane newer (Prepare stamp b txs ∷ rest) ∙ ap (λ q. prepared lane newer ++ q) (head ∙ ap (λ q. txs ∷ q) below) in
+      ap (prepared lane) e ∙ prepared_more lane newer (Prepare stamp b txs ∷ rest)
+      ∙ ap (λ q. prepared lane newer ++ q) (head ∙ ap (λ q. txs ∷ q) below) in
       let both : reverse done ++ prepared lane V ≡ (prepared lane newer ++ txs ∷ prepared lane h.0) ++ prepared lane V =
       sym all ∙ whole ∙ sym (append_assoc (prepared lane newer) (txs ∷ prepared lane h.0) (prepared lane V)) in
-      let cut : reverse done ≡ prepared lane newer ++ txs ∷ prepared lane h.0 = append_cancel_right (reverse done) (prepared lane newer ++ txs ∷ prepared lane h.0) (prepared lane V) both in
+      let cut : reverse done ≡ prepared lane newer ++ txs ∷ prepared lane h.0 =
+      append_cancel_right (reverse done) (prepared lane newer ++ txs ∷ prepared lane h.0) (prepared lane V) both in
       let end : IsEnd rest (J n) = (newer ++ Prepare stamp b txs ∷ [], e ∙ sym (append_assoc newer (Prepare stamp b txs ∷ []) rest)) in
-      let at_rest : (slot rest lane).number ≡ length (prepared lane rest) = number_is n lane low rest (end_trans (first_of K m n) V rest begins h) end in
+      let at_rest : (slot rest lane).number ≡ length (prepared lane rest) =
+      number_is n lane low rest (end_trans (first_of K m n) V rest begins h) end in
       let at_v : (slot V lane).number ≡ length (prepared lane V) = number_is n lane low V begins (end_trans V rest (J n) h end) in
-      let long : length (prepared lane rest) ≡ length (prepared lane h.0) + length (prepared lane V) = ap length below ∙ length-append (prepared lane h.0) (prepared lane V) in
+      let long : length (prepared lane rest) ≡ length (prepared lane h.0) + length (prepared lane V) =
+      ap length below ∙ length-append (prepared lane h.0) (prepared lane V) in
       let turn : length (reverse (prepared lane h.0)) ≡ length (prepared lane h.0) = length-reverse (prepared lane h.0) in
       record {
         front = reverse (prepared lane h.0);

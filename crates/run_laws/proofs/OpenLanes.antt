@@ -1,6 +1,8 @@
 -- In kept journals a lane that is not idle at its coordinator is open there as recovery wants it.
-use Rattle.std.proofs.Common.{◌≡◌, ◌⊎◌, inl, inr, ℕ, suc, ◌^◌, ◌<◌, ◌≤◌, Bool, true, false, ◌&&◌, not, nat_lt, List, [], ◌∷◌, ◌++◌, length, Option, Some, None, is_some, refl, sym, ap, ◌∙◌, subst, arith}
-use Rattle.cbdc_model.specs.Records.{Shape, Batch, Compact, Entry, Answered, Record, Row, journal, record_of, is_in_lane, lock_of, txs_of, outcomes_of, stamp_in, stamp_of, Forget, Prepare, Commit, Discard, Done}
+use Rattle.std.proofs.Common.{◌≡◌, ◌⊎◌, inl, inr, ℕ, suc, ◌^◌, ◌<◌, ◌≤◌, Bool, true, false, ◌&&◌, not, nat_lt, List, [], ◌∷◌, ◌++◌, length, Option}
+use Rattle.std.proofs.Common.{Some, None, is_some, refl, sym, ap, ◌∙◌, subst, arith}
+use Rattle.cbdc_model.specs.Records.{Shape, Batch, Compact, Entry, Answered, Record, Row, journal, record_of, is_in_lane, lock_of, txs_of}
+use Rattle.cbdc_model.specs.Records.{outcomes_of, stamp_in, stamp_of, Forget, Prepare, Commit, Discard, Done}
 use Rattle.cbdc_model.specs.Slots.{Phase, slot, slot_stamp, Idle, InLock, InFinish, InPrepare, InCommit, InDiscard}
 use Rattle.cbdc_model.specs.Grammar.{IsInGrammar}
 use Rattle.cbdc_model.specs.Replies.{entries}
@@ -12,7 +14,8 @@ use Rattle.cbdc_model.specs.History.{Minted, minted, header_of, first_rows}
 use Rattle.cbdc_model.specs.Sights.{Sight}
 use Rattle.lane_laws.specs.Calls.{is_concerned}
 use Rattle.lane_laws.specs.Granting.{MayLock, MayFinish, MayForget}
-use Rattle.ledger_laws.proofs.Answered.{LockAnswered, FinishAnswered, ForgetAnswered, lock_stale, lock_stored, lock_appends, finish_stale, finish_stored, finish_appends, forget_stale, forget_stored, forget_appends}
+use Rattle.ledger_laws.proofs.Answered.{LockAnswered, FinishAnswered, ForgetAnswered, lock_stale, lock_stored, lock_appends, finish_stale}
+use Rattle.ledger_laws.proofs.Answered.{finish_stored, finish_appends, forget_stale, forget_stored, forget_appends}
 use Rattle.ledger_laws.proofs.Repeats.{lock_answered, finish_answered, forget_answered}
 use Rattle.ledger_laws.proofs.Settling.{shard_number}
 use Rattle.ledger_laws.proofs.Next.{has_lock, Steady}
@@ -29,7 +32,8 @@ use Rattle.run_laws.specs.Runs.{seen_by}
 use Rattle.run_laws.proofs.Checked.{Any, rows_of}
 use Rattle.run_laws.proofs.Rests.{none_beyond}
 use Rattle.run_laws.proofs.Seen.{seen_log, seen_shard}
-use Rattle.run_laws.proofs.LastRecords.{LastStands, last_stands, last_stamped, IsShardPhase, of_shard, stamp_fits, prepare_stands, commit_stands, discard_stands}
+use Rattle.run_laws.proofs.LastRecords.{LastStands, last_stands, last_stamped, IsShardPhase, of_shard, stamp_fits, prepare_stands, commit_stands}
+use Rattle.run_laws.proofs.LastRecords.{discard_stands}
 
 outcomes_length : (locks : ℕ → List Answered) (shards k : ℕ) (txs : List Compact) → length (outcomes locks shards k txs) ≡ length txs
 outcomes_length locks shards k [] = refl
@@ -67,7 +71,8 @@ module _ (K : Shape) (b : Batch) where
   Locking t H S = (s : ℕ) → is_concerned K (txs_of H b) s ≡ true → MayLock (S s) b (part K.shards s 0 (txs_of H b)) t
 
   abbrev Finishing : ℕ → List Record → (ℕ → List Record) → Type 0
-  Finishing t H S = (s : ℕ) → is_concerned K (txs_of H b) s ≡ true → MayFinish (S s) b (decisions (outcomes_of H b) (part K.shards s 0 (txs_of H b))) t
+  Finishing t H S = (s : ℕ) → is_concerned K (txs_of H b) s ≡ true
+      → MayFinish (S s) b (decisions (outcomes_of H b) (part K.shards s 0 (txs_of H b))) t
 
   abbrev Forgetting : ℕ → List Record → (ℕ → List Record) → Type 0
   Forgetting t H S = (s : ℕ) → is_concerned K (txs_of H b) s ≡ true → MayForget (S s) b t
@@ -90,7 +95,10 @@ module _ (K : Shape) (b : Batch) where
   said log shards home shape number Idle e o = tt
   said log shards home shape number InLock e o = o
   said log shards home shape number InFinish e o = o
-  said log shards home shape number InPrepare e o = (o.0.fit, record { is_open = record { home = home; shape = shape; prepare = o.1; number = number; phase = e; others = o.0.others }; locking = o.2 })
+  said log shards home shape number InPrepare e o = (
+    o.0.fit,
+    record { is_open = record { home = home; shape = shape; prepare = o.1; number = number; phase = e; others = o.0.others }; locking = o.2 },
+  )
   said log shards home shape number InCommit e o = (
     o.0.fit,
     o.1,
@@ -135,7 +143,8 @@ module _ (K : Shape) (minting : Minted) (P : Compact → Type 0) (some : 0 < K.s
     not_past lt = omega (arith, lt, number, shard_number K minting P some later kept b.lane s)
 
     pub may_forget : is_concerned K (txs_of H b) s ≡ true → (t : ℕ) → record_of 8 H b ≡ Some (Discard t b) → MayForget (S s) b t
-    may_forget c t stands = from (forget_answered K minting P some later kept b t stands s (concerned s K.shards (is_no_part (part K.shards s 0 (txs_of H b))) c))
+    may_forget c t stands = from (forget_answered K minting P some later kept b t stands s
+        (concerned s K.shards (is_no_part (part K.shards s 0 (txs_of H b))) c))
       where
         from : ForgetAnswered (S s) b t → MayForget (S s) b t
         from (forget_stale lt) = absurd (not_past lt)
@@ -150,7 +159,8 @@ module _ (K : Shape) (minting : Minted) (P : Compact → Type 0) (some : 0 < K.s
     last_grammar = found_grammar K minting P some later kept (home_of K b.lane) _ b last.last last.stands
 
     no_shard_phase : IsShardPhase (slot H b.lane).phase → ⊥
-    no_shard_phase p = let le : K.coordinators ≤ home_of K b.lane = of_shard (header_of K minting.id (home_of K b.lane)) last.last last_grammar (subst IsShardPhase (sym last.phase) p) in omega (arith, le, home)
+    no_shard_phase p = let le : K.coordinators ≤ home_of K b.lane =
+        of_shard (header_of K minting.id (home_of K b.lane)) last.last last_grammar (subst IsShardPhase (sym last.phase) p) in omega (arith, le, home)
 
     module _ (prepared : is_some (record_of 6 H b) ≡ true) where
       prepare : (stamp : ℕ) × (record_of 6 H b ≡ Some (Prepare stamp b (txs_of H b)))
@@ -169,7 +179,8 @@ module _ (K : Shape) (minting : Minted) (P : Compact → Type 0) (some : 0 < K.s
       lock_there : (s kind : ℕ) → (kind ≡ 2) ⊎ (kind ≡ 3) ⊎ (kind ≡ 4) → is_some (record_of kind (S s) b) ≡ true → has_lock (S s) b ≡ true
       lock_there s kind (inl e) h = subst (λ k. is_some (record_of k (S s) b) ≡ true) e h
       lock_there s kind (inr (inl e)) h = locked_here K minting P some later kept s b (subst (λ k. is_some (record_of k (S s) b) ≡ true) e h)
-      lock_there s kind (inr (inr e)) h = locked_here K minting P some later kept s b (finished_here K minting P some later kept s b (subst (λ k. is_some (record_of k (S s) b) ≡ true) e h))
+      lock_there s kind (inr (inr e)) h = locked_here K minting P some later kept s b
+          (finished_here K minting P some later kept s b (subst (λ k. is_some (record_of k (S s) b) ≡ true) e h))
 
       others : (s kind : ℕ) → (kind ≡ 2) ⊎ (kind ≡ 3) ⊎ (kind ≡ 4) → is_concerned K (txs_of H b) s ≡ false → record_of kind (S s) b ≡ None
       others s kind which c = elim (unconcerned s K.shards (is_no_part (part K.shards s 0 (txs_of H b))) c) [
@@ -191,7 +202,8 @@ module _ (K : Shape) (minting : Minted) (P : Compact → Type 0) (some : 0 < K.s
         commit = commit_stands H b committed
 
         has_all : HasAll b H
-        has_all = ap length (standing K minting P some later kept (home_of K b.lane) 7 b (Commit commit.0 b (outcomes_of H b)) commit.1).2 ∙ outcomes_length _ K.shards 0 (txs_of H b)
+        has_all = ap length (standing K minting P some later kept (home_of K b.lane) 7 b (Commit commit.0 b (outcomes_of H b)) commit.1).2
+            ∙ outcomes_length _ K.shards 0 (txs_of H b)
 
         pub locks : (s : ℕ) → is_concerned K (txs_of H b) s ≡ true → entries (lock_of (S s) b) ≡ part K.shards s 0 (txs_of H b)
         locks s c = (all_structure K minting P some later kept).lock_part s b
@@ -199,19 +211,24 @@ module _ (K : Shape) (minting : Minted) (P : Compact → Type 0) (some : 0 < K.s
 
       pub forgot : (s : ℕ) → is_concerned K (txs_of H b) s ≡ true → (slot (S s) b.lane).number ≡ b.number → (slot (S s) b.lane).phase ≡ Idle
           → (is_some (record_of 4 (S s) b) ≡ true) × (stamp_in (record_of 4 (S s) b) ≡ slot_stamp (S s) b.lane)
-      forgot s c n i = elim (last_of (S s) b.lane) as (λ o. last_of (S s) b.lane ≡ o → (is_some (record_of 4 (S s) b) ≡ true) × (stamp_in (record_of 4 (S s) b) ≡ slot_stamp (S s) b.lane)) [
-        | None ↦ λ e. absurd (let z : (slot (S s) b.lane).number ≡ 0 = ap (λ q. q.number) (slot_is (S s) b.lane ∙ ap slot_by e) in omega (arith, z, n, prepare_grammar.1.1))
-        | Some r ↦ λ e. of_record r e (last_in_lane (S s) b.lane r e)
-            (sym (ap (λ q. q.number) (slot_is (S s) b.lane ∙ ap slot_by e)) ∙ n) (sym (ap (λ q. q.phase) (slot_is (S s) b.lane ∙ ap slot_by e)) ∙ i)
-      ] refl
+      forgot s c n i = elim (last_of (S s) b.lane) as
+          (λ o. last_of (S s) b.lane ≡ o → (is_some (record_of 4 (S s) b) ≡ true) × (stamp_in (record_of 4 (S s) b) ≡ slot_stamp (S s) b.lane)) [
+            | None ↦ λ e. absurd (let z : (slot (S s) b.lane).number ≡ 0 = ap (λ q. q.number) (slot_is (S s) b.lane ∙ ap slot_by e) in
+                omega (arith, z, n, prepare_grammar.1.1))
+            | Some r ↦ λ e. of_record r e (last_in_lane (S s) b.lane r e)
+                (sym (ap (λ q. q.number) (slot_is (S s) b.lane ∙ ap slot_by e)) ∙ n)
+                (sym (ap (λ q. q.phase) (slot_is (S s) b.lane ∙ ap slot_by e)) ∙ i)
+          ] refl
         where
-          of_record : (r : Record) → last_of (S s) b.lane ≡ Some r → is_in_lane b.lane r ≡ true → (slot_by (Some r)).number ≡ b.number → (slot_by (Some r)).phase ≡ Idle
+          of_record : (r : Record) → last_of (S s) b.lane ≡ Some r → is_in_lane b.lane r ≡ true → (slot_by (Some r)).number ≡ b.number
+              → (slot_by (Some r)).phase ≡ Idle
               → (is_some (record_of 4 (S s) b) ≡ true) × (stamp_in (record_of 4 (S s) b) ≡ slot_stamp (S s) b.lane)
           of_record (Forget stamp d) e l m i =
               let f : record_of 4 (S s) b ≡ Some (Forget stamp d) = last_found (S s) 4 b (Forget stamp d) e (both_same d b l m) in
               (ap is_some f, ap stamp_in f ∙ sym (ap stamp_in e))
           of_record (Done stamp d) e l m i =
-              absurd (true_false _ ((all_phases K minting P some later kept (shard_node K s)).done_prepared b (ap is_some (last_found (S s) 9 b (Done stamp d) e (both_same d b l m)))).0
+              absurd (true_false _ ((all_phases K minting P some later kept (shard_node K s)).done_prepared b
+              (ap is_some (last_found (S s) 9 b (Done stamp d) e (both_same d b l m)))).0
               ((all_dones K minting P some later kept (shard_node K s)).pure b (omega arith)))
           of_record other e l m i = cc
 
@@ -231,12 +248,15 @@ module _ (K : Shape) (minting : Minted) (P : Compact → Type 0) (some : 0 < K.s
 
       not_finished : is_some (record_of 7 H b) ≡ false → (slot (S s) b.lane).number ≡ b.number → (slot (S s) b.lane).phase ≡ InFinish → ⊥
       not_finished undecided n p =
-          true_false _ ((in_order K minting P some later kept b).finish s ((all_dones K minting P some later kept (shard_node K s)).finish_here b p n)).1 undecided
+          true_false _ ((in_order K minting P some later kept b).finish s
+          ((all_dones K minting P some later kept (shard_node K s)).finish_here b p n)).1 undecided
 
-      pub may_lock : (t : ℕ) → record_of 6 H b ≡ Some (Prepare t b (txs_of H b)) → is_some (record_of 7 H b) ≡ false → is_some (record_of 8 H b) ≡ false → MayLock (S s) b (part K.shards s 0 (txs_of H b)) t
+      pub may_lock : (t : ℕ) → record_of 6 H b ≡ Some (Prepare t b (txs_of H b)) → is_some (record_of 7 H b) ≡ false
+          → is_some (record_of 8 H b) ≡ false → MayLock (S s) b (part K.shards s 0 (txs_of H b)) t
       may_lock t stands undecided undone = from (lock_answered K minting P some later kept b t (txs_of H b) stands s of_txs.0)
         where
-          stored : (slot (S s) b.lane).number ≡ b.number → entries (lock_of (S s) b) ≡ part K.shards s 0 (txs_of H b) → (p : Phase) → (slot (S s) b.lane).phase ≡ p → MayLock (S s) b (part K.shards s 0 (txs_of H b)) t
+          stored : (slot (S s) b.lane).number ≡ b.number → entries (lock_of (S s) b) ≡ part K.shards s 0 (txs_of H b) → (p : Phase)
+              → (slot (S s) b.lane).phase ≡ p → MayLock (S s) b (part K.shards s 0 (txs_of H b)) t
           stored n e Idle p = absurd (not_forgot undone n p)
           stored n e InLock p = inr (n, p, e)
           stored n e InFinish p = absurd (not_finished undecided n p)
@@ -255,14 +275,16 @@ module _ (K : Shape) (minting : Minted) (P : Compact → Type 0) (some : 0 < K.s
       may_finish t stands undone = subst (λ es. MayFinish (S s) b (decisions (outcomes_of H b) es) t) (locks prepared (ap is_some stands) s c)
           (from (finish_answered K minting P some later kept b t (outcomes_of H b) stands s of_txs))
         where
-          from : FinishAnswered (S s) b (decisions (outcomes_of H b) (entries (lock_of (S s) b))) t → MayFinish (S s) b (decisions (outcomes_of H b) (entries (lock_of (S s) b))) t
+          from : FinishAnswered (S s) b (decisions (outcomes_of H b) (entries (lock_of (S s) b))) t
+              → MayFinish (S s) b (decisions (outcomes_of H b) (entries (lock_of (S s) b))) t
           from (finish_stale (inl lt)) = absurd (not_past number s lt)
           from (finish_stale (inr (n, i))) = absurd (not_forgot undone n i)
           from (finish_stored n p e) = (n, inr (p, e))
           from (finish_appends n p f older) = (n, inl (p, f, older))
 
     -- the stamp of the last record is the slot's
-    restamped : (kind : ℕ) (r : ℕ → Record) (t : ℕ) → ((t : ℕ) → stamp_of (r t) ≡ t) → record_of kind H b ≡ Some (r t) → slot_stamp H b.lane ≡ stamp_in (record_of kind H b)
+    restamped : (kind : ℕ) (r : ℕ → Record) (t : ℕ) → ((t : ℕ) → stamp_of (r t) ≡ t) → record_of kind H b ≡ Some (r t)
+        → slot_stamp H b.lane ≡ stamp_in (record_of kind H b)
         → record_of kind H b ≡ Some (r (slot_stamp H b.lane))
     restamped kind r t is e w = e ∙ ap (λ t. Some (r t)) (sym (w ∙ ap stamp_in e ∙ is t))
 
@@ -281,7 +303,8 @@ module _ (K : Shape) (minting : Minted) (P : Compact → Type 0) (some : 0 < K.s
       let stands = restamped n busy 6 (λ t. Prepare t b (txs_of H b)) p.0 (λ t. refl) p.1 (last_stamped H b InPrepare e (last n busy)).1 in (
         base n busy has,
         stands,
-        λ s c. may_lock n busy has s c (slot_stamp H b.lane) stands (((all_structure K minting P some later kept).journals (home_of K b.lane)).prepared b e n).1
+        λ s c. may_lock n busy has s c (slot_stamp H b.lane) stands
+            (((all_structure K minting P some later kept).journals (home_of K b.lane)).prepared b e n).1
             ((all_more K minting P some later kept (home_of K b.lane)).in_prepare b e n).0,
       )
   open_in n InCommit e =
@@ -310,13 +333,16 @@ module _ (K : Shape) (minting : Minted) (P : Compact → Type 0) (some : 0 < K.s
         λ s c. may_forget n s c (slot_stamp H b.lane) stands,
       )
 
-module _ (K : Shape) (minting : Minted) (P : Compact → Type 0) (some : 0 < K.shards) (later : List Row) (kept : Steady K minting P later) (lane : ℕ) (logs shards : ℕ → Sight)
-    (home : home_of K lane < K.coordinators) (shape : (logs (home_of K lane)).header.shape ≡ K) (are : (n : ℕ) → journal n (later ++ first_rows K minting) ≡ seen_by K logs shards n) where
+module _ (K : Shape) (minting : Minted) (P : Compact → Type 0) (some : 0 < K.shards) (later : List Row) (kept : Steady K minting P later) (lane : ℕ)
+    (logs shards : ℕ → Sight)
+    (home : home_of K lane < K.coordinators) (shape : (logs (home_of K lane)).header.shape ≡ K)
+    (are : (n : ℕ) → journal n (later ++ first_rows K minting) ≡ seen_by K logs shards n) where
   resumes : IsOpenBy (slot (logs (home_of K lane)).seen lane).phase K (open_batch (logs (home_of K lane)).seen lane) (logs (home_of K lane)) shards
   resumes =
       said K b (logs (home_of K lane)) shards home shape refl (slot (logs (home_of K lane)).seen lane).phase refl
       (subst (λ T. OpenIn K b (slot (logs (home_of K lane)).seen lane).phase (logs (home_of K lane)).seen T) at_shards
-      (subst (λ L. (slot L lane).number ≡ b.number → (p : Phase) → (slot L lane).phase ≡ p → OpenIn K b p L (λ s. journal (shard_node K s) (later ++ first_rows K minting))) at_home
+      (subst (λ L. (slot L lane).number ≡ b.number → (p : Phase) → (slot L lane).phase ≡ p
+      → OpenIn K b p L (λ s. journal (shard_node K s) (later ++ first_rows K minting))) at_home
       (open_in K minting P some later kept b home)
       refl (slot (logs (home_of K lane)).seen lane).phase refl))
     where
@@ -337,7 +363,8 @@ module _ (K : Shape) (minting : Minted) (P : Compact → Type 0) (some : 0 < K.s
 
 pub resume_law : ResumeLaw
 resume_law K mint submissions lane logs shards some home shape kept =
-    resumes K (minted mint) (IsProperCompact submissions) some kept.later (steady K (minted mint) (IsProperCompact submissions) kept.later kept.kept) lane logs shards home shape kept.history.journals_are
+    resumes K (minted mint) (IsProperCompact submissions) some kept.later (steady K (minted mint) (IsProperCompact submissions) kept.later kept.kept)
+    lane logs shards home shape kept.history.journals_are
 
 pub checked_resume_law : CheckedResumeLaw
 checked_resume_law K m lane logs shards some home shape checked =

@@ -1,5 +1,6 @@
 -- What a lane made leaves of the other lanes.
-use Rattle.std.proofs.Common.{◌≡◌, ◌≢◌, inl, inr, ℕ, Bool, true, false, ◌==◌, List, [], ◌∷◌, ◌++◌, if◌then◌else◌, refl, sym, ap, ◌∙◌, append_assoc, arith}
+use Rattle.std.proofs.Common.{◌≡◌, ◌≢◌, inl, inr, ℕ, Bool, true, false, ◌==◌, List, [], ◌∷◌, ◌++◌, if◌then◌else◌, refl, sym, ap, ◌∙◌, append_assoc}
+use Rattle.std.proofs.Common.{arith}
 use Rattle.cbdc_model.specs.Records.{Shape, Compact, Record, is_in_lane, Prepare}
 use Rattle.cbdc_model.specs.Slots.{slot}
 use Rattle.cbdc_model.specs.Lanes.{may_come, Made}
@@ -25,8 +26,10 @@ slot_step : (lane other : ℕ) (r : Record) (past : List Record) → other ≢ l
 slot_step lane other r past apart h = slot_stays r past other (lanes_apart lane other r h (unlike lane other apart))
 
 -- and is no Prepare of another
-prepared_step : (lane other : ℕ) (r : Record) (past : List Record) → other ≢ lane → is_in_lane lane r ≡ true → prepared other (r ∷ past) ≡ prepared other past
-prepared_step lane other (Prepare stamp b txs) past apart h = passed (b.lane == other) (txs ∷ prepared other past) (prepared other past) (elsewhere b.lane lane other apart h)
+prepared_step : (lane other : ℕ) (r : Record) (past : List Record) → other ≢ lane → is_in_lane lane r ≡ true
+    → prepared other (r ∷ past) ≡ prepared other past
+prepared_step lane other (Prepare stamp b txs) past apart h =
+    passed (b.lane == other) (txs ∷ prepared other past) (prepared other past) (elsewhere b.lane lane other apart h)
 prepared_step lane other another past apart h = refl
 
 module _ (K : Shape) (pieces : List (List Compact)) (lane : ℕ) (I J : ℕ → List Record) (made : Made K pieces true lane I J) where
@@ -46,12 +49,15 @@ module _ (K : Shape) (pieces : List (List Compact)) (lane : ℕ) (I J : ℕ → 
   slots_from : (n other : ℕ) → other ≢ lane → (more newer : List Record) → J n ≡ newer ++ (more ++ I n) → slot (more ++ I n) other ≡ slot (I n) other
   slots_from n other apart [] newer e = refl
   slots_from n other apart (r ∷ more) newer e =
-      slot_step lane other r (more ++ I n) apart (its_own n newer more r e) ∙ slots_from n other apart more (newer ++ r ∷ []) (e ∙ shifted newer more r (I n))
+      slot_step lane other r (more ++ I n) apart (its_own n newer more r e)
+      ∙ slots_from n other apart more (newer ++ r ∷ []) (e ∙ shifted newer more r (I n))
 
-  prepared_from : (n other : ℕ) → other ≢ lane → (more newer : List Record) → J n ≡ newer ++ (more ++ I n) → prepared other (more ++ I n) ≡ prepared other (I n)
+  prepared_from : (n other : ℕ) → other ≢ lane → (more newer : List Record) → J n ≡ newer ++ (more ++ I n)
+      → prepared other (more ++ I n) ≡ prepared other (I n)
   prepared_from n other apart [] newer e = refl
   prepared_from n other apart (r ∷ more) newer e =
-      prepared_step lane other r (more ++ I n) apart (its_own n newer more r e) ∙ prepared_from n other apart more (newer ++ r ∷ []) (e ∙ shifted newer more r (I n))
+      prepared_step lane other r (more ++ I n) apart (its_own n newer more r e)
+      ∙ prepared_from n other apart more (newer ++ r ∷ []) (e ∙ shifted newer more r (I n))
 
   pub leaves : LeavesOthers K lane I J
   leaves = record {

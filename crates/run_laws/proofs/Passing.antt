@@ -13,4 +13,5 @@ pass-append P (e ∷ es) fs h g = (h.0, pass-append P es fs h.1 g)
 pub pass_law : PassLaw
 pass_law K mint subs [] kept = tt
 pass_law K mint subs (row ∷ later) kept =
-    pass-append (IsProperCompact subs) (events_of later) (Begin row.node row.what ∷ End row.node ∷ []) (pass_law K mint subs later kept.3) (kept.2, (tt, tt))
+    pass-append (IsProperCompact subs) (events_of later) (Begin row.node row.what ∷ End row.node ∷ []) (pass_law K mint subs later kept.3)
+    (kept.2, (tt, tt))

@@ -1,5 +1,6 @@
 -- A sound transaction is proper, and a proper one is refused for a verdict alone.
-use Rattle.std.proofs.Common.{◌≡◌, ◌⊎◌, inl, inr, ℕ, suc, zero, ◌<◌, ◌≤◌, ◌^◌, true, false, List, [], ◌∷◌, map, length, slice_get, Some, None, bytes_eq, refl, sym, ap, ◌∙◌, subst, arith, lit<}
+use Rattle.std.proofs.Common.{◌≡◌, ◌⊎◌, inl, inr, ℕ, suc, zero, ◌<◌, ◌≤◌, ◌^◌, true, false, List, [], ◌∷◌, map, length, slice_get, Some, None}
+use Rattle.std.proofs.Common.{bytes_eq, refl, sym, ap, ◌∙◌, subst, arith, lit<}
 use Rattle.std.specs.Prelude.{◌≢◌}
 use Rattle.std.specs.List.{IsDistinct, AllByRecursion}
 use Rattle.std.proofs.lemmas.Bool.{cases_lt}
@@ -12,10 +13,13 @@ use Rattle.cbdc_types.specs.Kinds.{kind_of}
 use Rattle.cbdc_types.specs.declared.tx.Kind.TheVariants.{Burn}
 use Rattle.cbdc_model.specs.Clean.{IsProper}
 use Rattle.cbdc_model.specs.Money.{ArePaired}
-use Rattle.sentinel.specs.FirstRefusal.{Verdicts, Applies, rank, HasAt, IsLeast, Repeats, input_sum, output_sum, permits_in, permits_out, issuable_in, issuable_out}
+use Rattle.sentinel.specs.FirstRefusal.{Verdicts, Applies, rank, HasAt, IsLeast, Repeats, input_sum, output_sum, permits_in, permits_out, issuable_in}
+use Rattle.sentinel.specs.FirstRefusal.{issuable_out}
 use Rattle.sentinel.proofs.PermitSums.{among_none, paired_or_not}
 use Rattle.base_types.specs.declared.faults.Refusal.{Refusal}
-use Rattle.base_types.specs.declared.faults.Refusal.TheVariants.{NoInputs, NoOutputs, WitnessCount, RepeatedInput, ZeroInput, ZeroOutput, InputOverflow, OutputOverflow, Unbalanced, BurnedInput, PermitCount, PermitRaised, BadWitness, Unverified}
+use Rattle.base_types.specs.declared.faults.Refusal.TheVariants.{NoInputs, NoOutputs, WitnessCount, RepeatedInput, ZeroInput, ZeroOutput}
+use Rattle.base_types.specs.declared.faults.Refusal.TheVariants.{InputOverflow, OutputOverflow, Unbalanced, BurnedInput, PermitCount, PermitRaised}
+use Rattle.base_types.specs.declared.faults.Refusal.TheVariants.{BadWitness, Unverified}
 use Rattle.run_laws.specs.Runs.{SoundLaw, ProperLaw}
 
 -- where there is no least place, there is none
@@ -120,7 +124,8 @@ proper_of t verdicts none = record {
   keeps_money = record {
     balanced = same_of _ _ (λ h. none (Unbalanced _ _) (lit< tt) (refl, refl, h));
     none_burnt = All-from_recursion (λ c. kind_of c.output ≢ Burn) t.inputs
-        (none_of (λ (c : Input). kind_of c.output ≡ Burn) t.inputs (none_at (HasAt (λ x. kind_of x.output ≡ Burn) t.inputs) (λ i. none (BurnedInput i) (lit< tt))));
+        (none_of (λ (c : Input). kind_of c.output ≡ Burn) t.inputs
+        (none_at (HasAt (λ x. kind_of x.output ≡ Burn) t.inputs) (λ i. none (BurnedInput i) (lit< tt))));
     permits = paired_of t verdicts none;
     not_raised = not_raised_of t (paired_of t verdicts none) (λ ins outs lt. none (PermitRaised _ _) (lit< tt) (ins, outs, refl, refl, lt));
   };
@@ -161,7 +166,8 @@ keys_apart : (k : List ℕ) (ks : List (List ℕ)) → IsDistinct (λ p q. bytes
 unfolding IsDistinct
 keys_apart k ks d = d.1
 
-key_at : (k : List ℕ) (xs : List Input) (i : ℕ) (x : Input) → AllByRecursion (λ q. bytes_eq k q ≡ false) (map (λ c. key c.point) xs) → slice_get xs i ≡ Some x → bytes_eq k (key x.point) ≡ false
+key_at : (k : List ℕ) (xs : List Input) (i : ℕ) (x : Input) → AllByRecursion (λ q. bytes_eq k q ≡ false) (map (λ c. key c.point) xs)
+    → slice_get xs i ≡ Some x → bytes_eq k (key x.point) ≡ false
 key_at k [] i x all at = absurd (no_item x at)
 key_at k (y ∷ xs) zero x all at = subst (λ z. bytes_eq k (key z.point) ≡ false) (same_item y x at) all.0
 key_at k (y ∷ xs) (suc i) x all at = key_at k xs i x all.1 at
@@ -174,7 +180,8 @@ itself p q e h = lie (sym ((bytes_eq-Decides (key p) (key q)).1 (ap key e)) ∙ 
     lie s = cc
 
 -- where no two inputs name one outpoint none stands earlier
-not_twice : (xs : List Input) (i k : ℕ) (x y : Input) → IsDistinct (λ p q. bytes_eq p q) (map (λ c. key c.point) xs) → slice_get xs i ≡ Some x → slice_get xs k ≡ Some y
+not_twice : (xs : List Input) (i k : ℕ) (x y : Input) → IsDistinct (λ p q. bytes_eq p q) (map (λ c. key c.point) xs) → slice_get xs i ≡ Some x
+    → slice_get xs k ≡ Some y
     → k < i → y.point ≡ x.point → ⊥
 not_twice [] i k x y d here earlier lt e = no_item x here
 not_twice (z ∷ xs) zero k x y d here earlier lt e = omega (arith, lt)
@@ -208,7 +215,8 @@ refused_not t verdicts p InputOverflow below = past_not (input_sum t) (2 ^ 64) p
 refused_not t verdicts p OutputOverflow below = past_not (output_sum t) (2 ^ 64) p.outputs_fit
 refused_not t verdicts p (Unbalanced ins outs) below = λ h. h.2 (h.0 ∙ p.keeps_money.balanced ∙ sym h.1)
 refused_not t verdicts p (BurnedInput i) below = λ least.
-    none_there (λ (c : Input). kind_of c.output ≡ Burn) t.inputs i (recursion_from_All (λ c. kind_of c.output ≢ Burn) t.inputs p.keeps_money.none_burnt) least.holds
+    none_there (λ (c : Input). kind_of c.output ≡ Burn) t.inputs i
+    (recursion_from_All (λ c. kind_of c.output ≢ Burn) t.inputs p.keeps_money.none_burnt) least.holds
 refused_not t verdicts p (PermitCount ins outs) below = λ h.
     h.2 (subst (λ m. ArePaired m outs) (sym h.0) (subst (λ m. ArePaired (permits_in t) m) (sym h.1) p.keeps_money.permits))
 refused_not t verdicts p (PermitRaised was now) below = λ h. omega (arith, p.keeps_money.not_raised, h.2, h.3, h.4)

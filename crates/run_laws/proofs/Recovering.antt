@@ -1,5 +1,6 @@
 -- Recovery: the nodes are opened again, all Locks that are still to come are written, and then each lane is brought to rest.
-use Rattle.std.proofs.Common.{◌≡◌, ◌⊎◌, inl, inr, ℕ, ◌+◌, ◌*◌, ◌^◌, ◌<◌, ◌≤◌, ◌/◌, Bool, true, false, ◌&&◌, not, List, [], ◌∷◌, ◌++◌, length, is_some, sym, ap, subst, arith}
+use Rattle.std.proofs.Common.{◌≡◌, ◌⊎◌, inl, inr, ℕ, ◌+◌, ◌*◌, ◌^◌, ◌<◌, ◌≤◌, ◌/◌, Bool, true, false, ◌&&◌, not, List, [], ◌∷◌, ◌++◌, length, is_some}
+use Rattle.std.proofs.Common.{sym, ap, subst, arith}
 use Rattle.std.proofs.Math.Nat.{mul-le-mul}
 use Rattle.cbdc_types.specs.Limits.{IsWithinLimits}
 use Rattle.cbdc_model.specs.Records.{Shape, Batch, Compact, Record, Row, journal, record_of, txs_of, last_stamp, Prepare}
@@ -39,7 +40,8 @@ module _ (K : Shape) (minting : Minted) (P : Compact → Type 0) (shards : 0 < K
   abbrev J : ℕ → List Record
   J n = journal n (later ++ first_rows K minting)
 
-  done_locked : (b : Batch) (s : ℕ) → Concerned K (txs_of (J (b.lane / K.lanes)) b) s → is_some (record_of 9 (J (b.lane / K.lanes)) b) ≡ true → has_lock (J (shard_node K s)) b ≡ true
+  done_locked : (b : Batch) (s : ℕ) → Concerned K (txs_of (J (b.lane / K.lanes)) b) s → is_some (record_of 9 (J (b.lane / K.lanes)) b) ≡ true
+      → has_lock (J (shard_node K s)) b ≡ true
   done_locked b s c done =
       let o = in_order K minting P shards later kept b in
       let forgot = ((o.done done).1 s c).0 in
@@ -51,13 +53,16 @@ module _ (K : Shape) (minting : Minted) (P : Compact → Type 0) (shards : 0 < K
       → (b : Batch) (s : ℕ) → Concerned K (txs_of (J (b.lane / K.lanes)) b) s → has_lock (J (shard_node K s)) b ≡ true
   all_locked none b s c = by_prepare (locks.has_prepare K (J (b.lane / K.lanes)) b s c.1)
     where
-      by_number : (p : HasPrepare (J (b.lane / K.lanes)) b) → b.lane < K.coordinators * K.lanes → (b.number < (slot (J (b.lane / K.lanes)) b.lane).number) ⊎ ((slot (J (b.lane / K.lanes)) b.lane).number ≡ b.number)
+      by_number : (p : HasPrepare (J (b.lane / K.lanes)) b) → b.lane < K.coordinators * K.lanes
+          → (b.number < (slot (J (b.lane / K.lanes)) b.lane).number) ⊎ ((slot (J (b.lane / K.lanes)) b.lane).number ≡ b.number)
           → has_lock (J (shard_node K s)) b ≡ true
-      by_number p lt (inl less) = done_locked b s c ((all_dones K minting P shards later kept (b.lane / K.lanes)).past_done b (ap is_some p.stands) less)
+      by_number p lt (inl less) = done_locked b s c
+          ((all_dones K minting P shards later kept (b.lane / K.lanes)).past_done b (ap is_some p.stands) less)
       by_number p lt (inr e) =
           let same : open_batch (J (b.lane / K.lanes)) b.lane ≡ b = λ i. record { lane = b.lane; number = e i } in
           let f : (not (is_no_part (part K.shards s 0 (txs_of (J (b.lane / K.lanes)) b))) && not (has_lock (J (shard_node K s)) b)) ≡ false
-          = subst (λ d. (not (is_no_part (part K.shards s 0 (txs_of (J (b.lane / K.lanes)) d))) && not (has_lock (J (shard_node K s)) d)) ≡ false) same (none b.lane lt s c.0) in
+          = subst (λ d. (not (is_no_part (part K.shards s 0 (txs_of (J (b.lane / K.lanes)) d))) && not (has_lock (J (shard_node K s)) d)) ≡ false)
+          same (none b.lane lt s c.0) in
           not_lacking (is_no_part (part K.shards s 0 (txs_of (J (b.lane / K.lanes)) b))) (has_lock (J (shard_node K s)) b) f c.1
 
       less_or_same : (m n : ℕ) → m ≤ n → (m < n) ⊎ (n ≡ m)
@@ -65,7 +70,8 @@ module _ (K : Shape) (minting : Minted) (P : Compact → Type 0) (shards : 0 < K
 
       by_prepare : HasPrepare (J (b.lane / K.lanes)) b → has_lock (J (shard_node K s)) b ≡ true
       by_prepare p =
-          let g : IsInGrammar (header_of K minting.id (b.lane / K.lanes)) (Prepare p.cause b p.txs) = found_grammar K minting P shards later kept (b.lane / K.lanes) 6 b (Prepare p.cause b p.txs) p.stands in
+          let g : IsInGrammar (header_of K minting.id (b.lane / K.lanes)) (Prepare p.cause b p.txs) =
+          found_grammar K minting P shards later kept (b.lane / K.lanes) 6 b (Prepare p.cause b p.txs) p.stands in
           by_number p g.1.0 (less_or_same b.number (slot (J (b.lane / K.lanes)) b.lane).number
           (((all_structure K minting P shards later kept).journals (b.lane / K.lanes)).prepare_below b (ap is_some p.stands)))
 
@@ -96,7 +102,8 @@ locks_no_prepare : (es : List Event) → BeginLocks es → BeginNoPrepare es
 locks_no_prepare [] h = tt
 locks_no_prepare (e ∷ es) h = (of_event e h.0, locks_no_prepare es h.1)
 
-module _ (K : Shape) (mint : List Output) (txs : List FullTx) (limits : IsWithinLimits K) (kept_at : ℕ → Bool) (w : World) (kept : KeptWorld K mint txs w) where
+module _ (K : Shape) (mint : List Output) (txs : List FullTx) (limits : IsWithinLimits K) (kept_at : ℕ → Bool) (w : World)
+    (kept : KeptWorld K mint txs w) where
   abbrev m : Minted
   m = minted mint
 
@@ -125,7 +132,8 @@ module _ (K : Shape) (mint : List Output) (txs : List FullTx) (limits : IsWithin
     low = λ n. subst (λ J. last_stamp J ≤ top) (q.kept.history n) (low K m P shards q.kept.later q.kept.kept n);
   }
 
-  locked_at : (v : World) → IsQuiet K m P shards v → ((lane : ℕ) → lane < all_lanes → (s : ℕ) → s < K.shards → lacks_lock K (journals v) s lane ≡ false) → AllLocked K v
+  locked_at : (v : World) → IsQuiet K m P shards v
+      → ((lane : ℕ) → lane < all_lanes → (s : ℕ) → s < K.shards → lacks_lock K (journals v) s lane ≡ false) → AllLocked K v
   locked_at v q = subst (λ J. ((lane : ℕ) → lane < all_lanes → (s : ℕ) → s < K.shards → lacks_lock K J s lane ≡ false)
       → (b : Batch) (s : ℕ) → Concerned K (txs_of (J (b.lane / K.lanes)) b) s → has_lock (J (shard_node K s)) b ≡ true) (λ i n. q.kept.history n i)
       (λ none. all_locked K m P shards q.kept.later q.kept.kept none)
@@ -139,13 +147,15 @@ module _ (K : Shape) (mint : List Output) (txs : List FullTx) (limits : IsWithin
     Goes v = Going K m P shards lanes Inv keeps v
 
     recovers : (v : World) → Opened K m P shards kept_at w v → (g : Goes v) → Clear g.new → Recovers K mint txs kept_at w
-    recovers v o g clear = by_lanes (lanes_rest K m P shards lanes all_lanes (omega arith) top g.new (enough K limits) (inr (locked_at g.new g.is_quiet clear)) (open_at g.new g.is_quiet))
+    recovers v o g clear = by_lanes (lanes_rest K m P shards lanes all_lanes (omega arith) top g.new (enough K limits)
+        (inr (locked_at g.new g.is_quiet clear)) (open_at g.new g.is_quiet))
       where
         by_lanes : Rests K m P shards all_lanes (top + all_lanes * (3 * K.shards + 3)) g.new → Recovers K mint txs kept_at w
         by_lanes r = record {
           asked = g.events ++ r.events;
           after = r.new;
-          run = run-append K m w v r.new (openings kept_at (length w)) (g.events ++ r.events) o.run (run-append K m v g.new r.new g.events r.events g.run r.run);
+          run = run-append K m w v r.new (openings kept_at (length w)) (g.events ++ r.events) o.run
+              (run-append K m v g.new r.new g.events r.events g.run r.run);
           none = begin-append g.events r.events (locks_no_prepare g.events g.locks) r.none;
           kept = to_kept K mint txs r.new r.is_open.size r.is_open.kept;
           recovered = record { up = r.is_open.up; quiet = r.is_open.quiet; idle = r.idle };
@@ -173,9 +183,11 @@ module _ (K : Shape) (mint : List Output) (txs : List FullTx) (limits : IsWithin
     by_fits (sticks g stuck) = absurd (fits_not_stuck K m P shards lanes g.new g.holds stuck)
 
     recovers_fitting : LocksFit K (opened kept_at w) → Recovers K mint txs kept_at w
-    recovers_fitting fit = by_fits (locks_written (λ u. LocksFit K (journals u)) (fits_stay K m P shards lanes) v o (subst (λ J. LocksFit K J) (λ i n. sym (o.journals_are n) i) fit))
+    recovers_fitting fit = by_fits (locks_written (λ u. LocksFit K (journals u)) (fits_stay K m P shards lanes) v o
+        (subst (λ J. LocksFit K J) (λ i n. sym (o.journals_are n) i) fit))
 
-    either : Comes K m P shards lanes (λ u. Unit {0}) (λ v u s lane ls ll l step i. tt) v Clear → Recovers K mint txs kept_at w ⊎ Sticks K mint txs kept_at w
+    either : Comes K m P shards lanes (λ u. Unit {0}) (λ v u s lane ls ll l step i. tt) v Clear
+        → Recovers K mint txs kept_at w ⊎ Sticks K mint txs kept_at w
     either (arrives g clear) = inl (recovers (λ u. Unit {0}) (λ v u s lane ls ll l step i. tt) v o g clear)
     either (sticks g stuck) = inr (stuck_at (λ u. Unit {0}) (λ v u s lane ls ll l step i. tt) v o g stuck)
 

@@ -1,6 +1,8 @@
 -- In kept journals a lane that is idle at its coordinator is settled.
-use Rattle.std.proofs.Common.{◌≡◌, ◌⊎◌, inl, inr, ℕ, ◌+◌, ◌-◌, ◌/◌, ◌<◌, ◌≤◌, true, false, ◌&&◌, ◌==◌, nat_lt, if◌then◌else◌, List, [], ◌∷◌, ◌++◌, Some, None, is_some, refl, sym, ap, ◌∙◌, subst, arith}
-use Rattle.cbdc_model.specs.Records.{Shape, Batch, Compact, Record, Row, kind_of, is_of, record_of, journal, last_stamp, Lock, Finish, Forget, Prepare, Commit, Discard, Done}
+use Rattle.std.proofs.Common.{◌≡◌, ◌⊎◌, inl, inr, ℕ, ◌+◌, ◌-◌, ◌/◌, ◌<◌, ◌≤◌, true, false, ◌&&◌, ◌==◌, nat_lt, if◌then◌else◌, List, [], ◌∷◌, ◌++◌}
+use Rattle.std.proofs.Common.{Some, None, is_some, refl, sym, ap, ◌∙◌, subst, arith}
+use Rattle.cbdc_model.specs.Records.{Shape, Batch, Compact, Record, Row, kind_of, is_of, record_of, journal, last_stamp, Lock, Finish, Forget}
+use Rattle.cbdc_model.specs.Records.{Prepare, Commit, Discard, Done}
 use Rattle.cbdc_model.specs.Ranges.{home_of, shard_node}
 use Rattle.cbdc_model.specs.Slots.{slot, slot_stamp, Idle}
 use Rattle.cbdc_model.specs.Clean.{IsProperCompact}
@@ -40,7 +42,8 @@ none_later J ok more kind b lt =
     below other e t = grind (arith, t)
 
 -- behind the last node there is no journal
-pub none_beyond : (K : Shape) (minting : Minted) (P : Compact → Type 0) (later : List Row) → Steady K minting P later → (n : ℕ) → K.coordinators + K.shards ≤ n
+pub none_beyond : (K : Shape) (minting : Minted) (P : Compact → Type 0) (later : List Row) → Steady K minting P later → (n : ℕ)
+    → K.coordinators + K.shards ≤ n
     → journal n (later ++ first_rows K minting) ≡ []
 none_beyond K minting P [] kept n le = first_beyond K minting n le
 none_beyond K minting P (row ∷ later) kept n le =
@@ -64,7 +67,8 @@ module _ (K : Shape) (minting : Minted) (P : Compact → Type 0) (some : 0 < K.s
       low = grind (arith, home)
 
   at_shard : (s : ℕ) → journal (shard_node K s) (later ++ first_rows K minting) ≡ (shards s).seen
-  at_shard s = are (shard_node K s) ∙ ap (λ t. if t then (logs (shard_node K s)).seen else (shards (shard_node K s - K.coordinators)).seen) high ∙ ap (λ m. (shards m).seen) back
+  at_shard s = are (shard_node K s) ∙ ap (λ t. if t then (logs (shard_node K s)).seen else (shards (shard_node K s - K.coordinators)).seen) high
+      ∙ ap (λ m. (shards m).seen) back
     where
       high : nat_lt (shard_node K s) K.coordinators ≡ false
       high = grind arith
@@ -95,8 +99,10 @@ module _ (K : Shape) (minting : Minted) (P : Compact → Type 0) (some : 0 < K.s
 
   number_there : (s : ℕ) → (slot (shards s).seen lane).number ≤ (slot log lane).number
   number_there s =
-      let here : (slot (journal (home_of K lane) (later ++ first_rows K minting)) lane).number ≡ (slot log lane).number = ap (λ J. (slot J lane).number) at_home in
-      let there : (slot (journal (shard_node K s) (later ++ first_rows K minting)) lane).number ≡ (slot (shards s).seen lane).number = ap (λ J. (slot J lane).number) (at_shard s) in
+      let here : (slot (journal (home_of K lane) (later ++ first_rows K minting)) lane).number ≡ (slot log lane).number =
+      ap (λ J. (slot J lane).number) at_home in
+      let there : (slot (journal (shard_node K s) (later ++ first_rows K minting)) lane).number ≡ (slot (shards s).seen lane).number =
+      ap (λ J. (slot J lane).number) (at_shard s) in
       omega (arith, shard_number K minting P some later kept lane s)
 
   stamp_there : (s : ℕ) → slot_stamp (shards s).seen lane ≤ last_stamp log
@@ -108,13 +114,15 @@ module _ (K : Shape) (minting : Minted) (P : Compact → Type 0) (some : 0 < K.s
       inside : s < K.shards → slot_stamp (shards s).seen lane ≤ last_stamp log
       inside lt =
           let here : last_stamp (journal (home_of K lane) (later ++ first_rows K minting)) ≡ last_stamp log = ap last_stamp at_home in
-          let there : slot_stamp (journal (shard_node K s) (later ++ first_rows K minting)) lane ≡ slot_stamp (shards s).seen lane = ap (λ J. slot_stamp J lane) (at_shard s) in
+          let there : slot_stamp (journal (shard_node K s) (later ++ first_rows K minting)) lane ≡ slot_stamp (shards s).seen lane =
+          ap (λ J. slot_stamp J lane) (at_shard s) in
           omega (arith, shard_stamp K minting P some later kept lane idle_home s lt)
 
       outside : K.shards ≤ s → slot_stamp (shards s).seen lane ≤ last_stamp log
       outside le = let z : slot_stamp (shards s).seen lane ≡ 0 = ap (λ J. slot_stamp J lane) (no_journal s le) in omega arith
 
-  fresh_at : (n : ℕ) (J : List Record) → journal n (later ++ first_rows K minting) ≡ J → (kind : ℕ) (b : Batch) → (slot J b.lane).number < b.number → record_of kind J b ≡ None
+  fresh_at : (n : ℕ) (J : List Record) → journal n (later ++ first_rows K minting) ≡ J → (kind : ℕ) (b : Batch) → (slot J b.lane).number < b.number
+      → record_of kind J b ≡ None
   fresh_at n J e kind b lt = none_later J (subst JournalOk e (ok_at n)) (subst MoreOk e (more_at n)) kind b lt
 
   pub rests : (logs (home_of K lane)).header.shape ≡ K → Settled K lane (slot log lane).number (logs (home_of K lane)) shards
@@ -127,7 +135,8 @@ module _ (K : Shape) (minting : Minted) (P : Compact → Type 0) (some : 0 < K.s
     shard_number = number_there;
     shard_stamp = stamp_there;
     fresh_log = λ kind b e lt. fresh_at (home_of K lane) log at_home kind b (same_lane log b e lt);
-    fresh_shard = λ s kind b e lt. fresh_at (shard_node K s) (shards s).seen (at_shard s) kind b (same_lane (shards s).seen b e (omega (arith, number_there s, lt)));
+    fresh_shard = λ s kind b e lt. fresh_at (shard_node K s) (shards s).seen (at_shard s) kind b
+        (same_lane (shards s).seen b e (omega (arith, number_there s, lt)));
   }
     where
       same_lane : (J : List Record) (b : Batch) → b.lane ≡ lane → (slot J lane).number < b.number → (slot J b.lane).number < b.number

@@ -25,7 +25,8 @@ on_it (x ∷ xs) =
     let here : shard_of 1 x ≡ 0 = omega arith in
     rw here (ap (λ l. x ∷ l) (on_it xs))
 
-part_one : (k : Compact) (x : Digest) → k.inputs ≡ x ∷ [] → part 1 0 0 (k ∷ []) ≡ record { place = 0; id = k.id; inputs = k.inputs; outputs = k.outputs } ∷ []
+part_one : (k : Compact) (x : Digest) → k.inputs ≡ x ∷ []
+    → part 1 0 0 (k ∷ []) ≡ record { place = 0; id = k.id; inputs = k.inputs; outputs = k.outputs } ∷ []
 part_one k x e = rw (on_it k.inputs, on_it k.outputs, e) refl
 
 -- a list of one is cut into one piece
@@ -37,7 +38,8 @@ cut_one k (piece ∷ (p ∷ more)) c =
     let some : 0 < length p = c.2.0 in
     absurd (omega (arith, ap length e))
 
-module _ (m : Minted) (h : Digest) (t : FullTx) (capacity : ℕ → ℕ) (coin : m.hashes ≡ h ∷ []) (one_input : length t.inputs ≡ 1) (one_output : length t.outputs ≡ 1) where
+module _ (m : Minted) (h : Digest) (t : FullTx) (capacity : ℕ → ℕ) (coin : m.hashes ≡ h ∷ []) (one_input : length t.inputs ≡ 1)
+    (one_output : length t.outputs ≡ 1) where
   k : Compact
   k = compact t
 
@@ -46,13 +48,16 @@ module _ (m : Minted) (h : Digest) (t : FullTx) (capacity : ℕ → ℕ) (coin :
 
   k_outputs : (x : Digest) × ((compact t).outputs ≡ x ∷ [])
   k_outputs =
-      let found = one_in t.outputs one_output in
-      (coin_hash (record { point = record { tx = tx_id t; index = 0 }; output = found.0 }), ap (λ (os : List Output). map coin_hash (made_coins (tx_id t) 0 os)) found.1)
+      let found = one_in t.outputs one_output in (
+        coin_hash (record { point = record { tx = tx_id t; index = 0 }; output = found.0 }),
+        ap (λ (os : List Output). map coin_hash (made_coins (tx_id t) 0 os)) found.1,
+      )
 
   -- the seven records
   seven : List Coming
   seven =
-      record { node = 0; kind = 6; size = 154 } ∷ (record { node = 0; kind = 7; size = 99 } ∷ (record { node = 0; kind = 8; size = 34 } ∷ (record { node = 0; kind = 9; size = 34 }
+      record { node = 0; kind = 6; size = 154 } ∷
+      (record { node = 0; kind = 7; size = 99 } ∷ (record { node = 0; kind = 8; size = 34 } ∷ (record { node = 0; kind = 9; size = 34 }
       ∷ (record { node = 1; kind = 2; size = 211 } ∷ (record { node = 1; kind = 3; size = 43 } ∷ (record { node = 1; kind = 4; size = 34 } ∷ []))))))
 
   are_seven : records_of one_of_each 0 (compact t ∷ []) ≡ seven
@@ -90,8 +95,10 @@ module _ (m : Minted) (h : Digest) (t : FullTx) (capacity : ℕ → ℕ) (coin :
 
   enough : Ample one_of_each (λ t. true) capacity ((t ∷ []) ∷ []) (first_journals m) → (420 ≤ capacity 0) × (427 ≤ capacity 1)
   enough a =
-      let e = to_come a.batches (its_batches a.batches (a.cut 0 (omega arith))) in
-      (omega (arith, a.room 0 (omega arith), used_0, ap (bytes_at 0) e, bytes_0), omega (arith, a.room 1 (omega arith), used_1, ap (bytes_at 1) e, bytes_1))
+      let e = to_come a.batches (its_batches a.batches (a.cut 0 (omega arith))) in (
+        omega (arith, a.room 0 (omega arith), used_0, ap (bytes_at 0) e, bytes_0),
+        omega (arith, a.room 1 (omega arith), used_1, ap (bytes_at 1) e, bytes_1),
+      )
 
   the_batches : ℕ → List (List Compact)
   the_batches lane = (compact t ∷ []) ∷ []
@@ -105,7 +112,8 @@ module _ (m : Minted) (h : Digest) (t : FullTx) (capacity : ℕ → ℕ) (coin :
   unfolding the_batches
   coming_is = to_come the_batches refl
 
-  has_room : (420 ≤ capacity 0) × (427 ≤ capacity 1) → (n : ℕ) → n < 1 + 1 → used_of (first_journals m n) + bytes_at n (still_to_come one_of_each (first_journals m) the_batches) ≤ capacity n
+  has_room : (420 ≤ capacity 0) × (427 ≤ capacity 1) → (n : ℕ) → n < 1 + 1
+      → used_of (first_journals m n) + bytes_at n (still_to_come one_of_each (first_journals m) the_batches) ≤ capacity n
   has_room both zero lt = omega (arith, both.0, used_0, ap (bytes_at 0) coming_is, bytes_0)
   has_room both (suc zero) lt = omega (arith, both.1, used_1, ap (bytes_at 1) coming_is, bytes_1)
   has_room both (suc (suc n)) lt = absurd (omega arith)

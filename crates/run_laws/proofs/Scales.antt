@@ -1,7 +1,8 @@
 -- Records and what is kept for later ones on one scale: by their bytes, or by their number.
 use Rattle.std.proofs.Common.{◌≡◌, ℕ, suc, Bool, ◌+◌, ◌*◌, ◌≤◌, List, [], ◌∷◌, length, refl, ap, arith}
 use Rattle.std.specs.List.{sum_by}
-use Rattle.cbdc_model.specs.Records.{Batch, Compact, Entry, Reply, Outcome, Answered, Record, Held, Missing, Taken, Won, Lacks, Blocked, Lock, Finish, Forget, Prepare, Commit, Discard, Done}
+use Rattle.cbdc_model.specs.Records.{Batch, Compact, Entry, Reply, Outcome, Answered, Record, Held, Missing, Taken, Won, Lacks, Blocked, Lock, Finish}
+use Rattle.cbdc_model.specs.Records.{Forget, Prepare, Commit, Discard, Done}
 use Rattle.cbdc_model.specs.Slots.{Phase, Idle, InLock, InFinish, InPrepare, InCommit, InDiscard}
 use Rattle.cbdc_model.specs.Replies.{entries}
 use Rattle.cbdc_model.specs.Room.{compact_size, answered_size, outcome_size, reply_size, size_of, room_in}
@@ -40,7 +41,8 @@ pub record Scale : Type 0 where
 pub record Fair (s : Scale) : Type 0 where
   pub idle : (m n : ℕ) → s.kept Idle m n ≡ 0
   pub prepare : (node t m : ℕ) (b : Batch) (txs : List Compact)
-      → s.taken (Prepare t b txs) + s.kept InPrepare m (length txs) ≤ s.coming (prepare_at node txs) + (s.coming (commit_at node (length txs)) + (s.coming (discard_at node) + s.coming (done_at node)))
+      → s.taken (Prepare t b txs) + s.kept InPrepare m (length txs)
+      ≤ s.coming (prepare_at node txs) + (s.coming (commit_at node (length txs)) + (s.coming (discard_at node) + s.coming (done_at node)))
   pub prepared : (node m n : ℕ) → s.kept InPrepare m n ≤ s.coming (commit_at node n) + (s.coming (discard_at node) + s.coming (done_at node))
   pub commit : (t m m' n' : ℕ) (b : Batch) (os : List Outcome) → s.taken (Commit t b os) + s.kept InCommit m' n' ≤ s.kept InPrepare m (length os)
   pub committed : (node m n : ℕ) → s.kept InCommit m n ≤ s.coming (discard_at node) + s.coming (done_at node)
@@ -48,7 +50,8 @@ pub record Fair (s : Scale) : Type 0 where
   pub discarded : (node m n : ℕ) → s.kept InDiscard m n ≤ s.coming (done_at node)
   pub done : (t m n : ℕ) (b : Batch) → s.taken (Done t b) ≤ s.kept InDiscard m n
   pub lock : (node t n : ℕ) (b : Batch) (es : List Answered)
-      → s.taken (Lock t b es) + s.kept InLock (length es) n ≤ s.coming (lock_at node (entries es)) + (s.coming (finish_at node (length (entries es))) + s.coming (forget_at node))
+      → s.taken (Lock t b es) + s.kept InLock (length es) n
+      ≤ s.coming (lock_at node (entries es)) + (s.coming (finish_at node (length (entries es))) + s.coming (forget_at node))
   pub locked : (node m n : ℕ) → s.kept InLock m n ≤ s.coming (finish_at node m) + s.coming (forget_at node)
   pub finish : (t n m' n' : ℕ) (b : Batch) (ds : List Bool) → s.taken (Finish t b ds) + s.kept InFinish m' n' ≤ s.kept InLock (length ds) n
   pub finished : (node m n : ℕ) → s.kept InFinish m n ≤ s.coming (forget_at node)

@@ -13,7 +13,8 @@ seen_log K logs shards n lt = ap (λ t. if t then (logs n).seen else (shards (n 
     low = grind (arith, lt)
 
 pub seen_shard : (K : Shape) (logs shards : ℕ → Sight) (s : ℕ) → seen_by K logs shards (shard_node K s) ≡ (shards s).seen
-seen_shard K logs shards s = ap (λ t. if t then (logs (shard_node K s)).seen else (shards (shard_node K s - K.coordinators)).seen) high ∙ ap (λ m. (shards m).seen) back
+seen_shard K logs shards s = ap (λ t. if t then (logs (shard_node K s)).seen else (shards (shard_node K s - K.coordinators)).seen) high
+    ∙ ap (λ m. (shards m).seen) back
   where
     high : nat_lt (shard_node K s) K.coordinators ≡ false
     high = grind arith

@@ -24,7 +24,8 @@ use Rattle.ledger_laws.proofs.Recovered.{none_locked, none_coming}
 use Rattle.ledger_laws.proofs.Waiting.{none_taken}
 use Rattle.run_laws.specs.Laws.{OnceLaw, SpentLaw, NoneOpenLaw}
 
-module _ (K : Shape) (mint : List Output) (txs : List FullTx) (shards : 0 < K.shards) (clean : Clean mint txs) (later : List Row) (kept : Steady K (minted mint) (IsProperCompact txs) later) where
+module _ (K : Shape) (mint : List Output) (txs : List FullTx) (shards : 0 < K.shards) (clean : Clean mint txs) (later : List Row)
+    (kept : Steady K (minted mint) (IsProperCompact txs) later) where
   abbrev past : List Row
   past = history_of K mint later
 
@@ -42,12 +43,14 @@ module _ (K : Shape) (mint : List Output) (txs : List FullTx) (shards : 0 < K.sh
 
   of_waiting : (x : Digest) → 0 < count x (all_inputs (committed past)) → IsWaiting K past x → ⊥
   of_waiting x n w =
-      let z : count x (all_inputs (won_of K past w.0)) ≡ 0 = none_taken K (minted mint) (IsProperCompact txs) shards later kept x w.0 w.1 w.3 w.4 w.5 (inv.held_once x w.0) w.6 in
+      let z : count x (all_inputs (won_of K past w.0)) ≡ 0 =
+      none_taken K (minted mint) (IsProperCompact txs) shards later kept x w.0 w.1 w.3 w.4 w.5 (inv.held_once x w.0) w.6 in
       omega (arith, inv.locked x w.0 w.2, z)
 
   of_coming : (x : Digest) → 0 < count x (all_inputs (committed past)) → IsComing K past x → ⊥
   of_coming x n c =
-      let m : 0 < count x (all_outputs (won_of K past c.0)) = in_count x (all_outputs (won_of K past c.0)) (in_contains (all_outputs (won_of K past c.0)) x c.1) in
+      let m : 0 < count x (all_outputs (won_of K past c.0)) =
+      in_count x (all_outputs (won_of K past c.0)) (in_contains (all_outputs (won_of K past c.0)) x c.1) in
       omega (arith, inv.pending x c.0 m c.2, inv.spent_le x)
 
   taken : (x : Digest) → 0 < count x (all_inputs (committed past)) → IsPlaced K past x → ⊥
@@ -64,14 +67,16 @@ module _ (K : Shape) (mint : List Output) (txs : List FullTx) (shards : 0 < K.sh
 
     none_comes : (x : Digest) → IsComing K past x → ⊥
     none_comes x c =
-        none_coming K (minted mint) (IsProperCompact txs) shards later kept all_idle x c.0 (in_count x (all_outputs (won_of K past c.0)) (in_contains (all_outputs (won_of K past c.0)) x c.1)) c.2
+        none_coming K (minted mint) (IsProperCompact txs) shards later kept all_idle x c.0
+        (in_count x (all_outputs (won_of K past c.0)) (in_contains (all_outputs (won_of K past c.0)) x c.1)) c.2
 
 pub once_law : OnceLaw
 once_law K mint subs later txs shards clean kept are =
     let k : Steady K (minted mint) (IsProperCompact subs) later = steady K (minted mint) (IsProperCompact subs) later kept in
     let f : FullForms mint subs clean (committed (history_of K mint later)) = forms K mint subs shards clean later k in
     let same : f.full ≡ txs = one_list subs (committed (history_of K mint later)) f.full txs f.is are in (
-      subst (λ ts. NoneTwice ts) same (none_twice mint subs clean K (history_of K mint later) (inv K mint subs shards clean later k) (each K mint subs shards clean later k) f),
+      subst (λ ts. NoneTwice ts) same (none_twice mint subs clean K (history_of K mint later) (inv K mint subs shards clean later k)
+          (each K mint subs shards clean later k) f),
       no_id_twice mint subs clean K (history_of K mint later) (inv K mint subs shards clean later k) (each K mint subs shards clean later k),
     )
 

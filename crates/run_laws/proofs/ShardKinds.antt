@@ -1,6 +1,8 @@
 -- Which records of a batch a shard has.
-use Rattle.std.proofs.Common.{◌≡◌, ◌⊎◌, inl, inr, ℕ, ◌+◌, ◌-◌, ◌<◌, Bool, true, false, ◌&&◌, ◌==◌, nat_lt, if◌then◌else◌, List, [], ◌∷◌, ◌++◌, refl, sym, subst, arith}
-use Rattle.cbdc_model.specs.Records.{Digest, Shape, Compact, Batch, Record, Row, journal, kind_of, is_of, same_batch, Genesis, Lock, Finish, Forget, Start}
+use Rattle.std.proofs.Common.{◌≡◌, ◌⊎◌, inl, inr, ℕ, ◌+◌, ◌-◌, ◌<◌, Bool, true, false, ◌&&◌, ◌==◌, nat_lt, if◌then◌else◌, List, [], ◌∷◌, ◌++◌, refl}
+use Rattle.std.proofs.Common.{sym, subst, arith}
+use Rattle.cbdc_model.specs.Records.{Digest, Shape, Compact, Batch, Record, Row, journal, kind_of, is_of, same_batch, Genesis, Lock, Finish, Forget}
+use Rattle.cbdc_model.specs.Records.{Start}
 use Rattle.cbdc_model.specs.Ranges.{shard_node, on_shard}
 use Rattle.cbdc_model.specs.Grammar.{IsInGrammar}
 use Rattle.cbdc_model.specs.Clean.{IsProperCompact}
@@ -30,7 +32,8 @@ none_of false = refl
 no_more : (c : Bool) (n : ℕ) → c ≡ false → n ≡ 0 → (if c then 1 else 0) + n ≡ 0
 no_more c n e z = grind arith
 
-module _ (K : Shape) (m : Minted) (P : Compact → Type 0) (s kind : ℕ) (b : Batch) (lt : s < K.shards) (other : (kind ≡ 2) ⊎ (kind ≡ 3) ⊎ (kind ≡ 4) → ⊥) where
+module _ (K : Shape) (m : Minted) (P : Compact → Type 0) (s kind : ℕ) (b : Batch) (lt : s < K.shards)
+    (other : (kind ≡ 2) ⊎ (kind ≡ 3) ⊎ (kind ≡ 4) → ⊥) where
   not_it : (id : Digest) (n : ℕ) (r : Record) → n ≡ shard_node K s → IsInGrammar (header_of K id n) r → ((kind_of r == kind) && is_of b r) ≡ false
   not_it id n (Genesis header hs) e g = and_false (1 == kind)
   not_it id n (Lock stamp c es) e g = false_and (2 == kind) (same_batch c b) (unlike 2 kind (λ k. other (inl k)))
@@ -51,7 +54,8 @@ module _ (K : Shape) (m : Minted) (P : Compact → Type 0) (s kind : ℕ) (b : B
   no_one (row ∷ later) h =
       let ih : count_of kind (journal (shard_node K s) (later ++ first_rows K m)) b ≡ 0 = no_one later h.3 in
       elim (row.node == shard_node K s) as (λ c. row.node == shard_node K s ≡ c
-      → count_of kind (if c then row.what ∷ journal (shard_node K s) (later ++ first_rows K m) else journal (shard_node K s) (later ++ first_rows K m)) b ≡ 0) [
+      → count_of kind (if c then row.what ∷ journal (shard_node K s) (later ++ first_rows K m)
+      else journal (shard_node K s) (later ++ first_rows K m)) b ≡ 0) [
         | true ↦ λ e. no_more ((kind_of row.what == kind) && is_of b row.what) (count_of kind (journal (shard_node K s) (later ++ first_rows K m)) b)
             (not_it m.id row.node row.what (is_same row.node (shard_node K s) e) h.0.0) ih
         | false ↦ λ e. ih

@@ -1,5 +1,6 @@
 -- What a lane gets of a file, in pieces, and where a submission lies in it.
-use Rattle.std.proofs.Common.{◌≡◌, ℕ, suc, ◌+◌, ◌-◌, ◌%◌, ◌<◌, Bool, true, false, cond, ◌==◌, nat_lt, if◌then◌else◌, List, [], ◌∷◌, ◌++◌, map, reverse, length, take, drop, Some, refl, sym, ap, ◌∙◌, arith, append_assoc}
+use Rattle.std.proofs.Common.{◌≡◌, ℕ, suc, ◌+◌, ◌-◌, ◌%◌, ◌<◌, Bool, true, false, cond, ◌==◌, nat_lt, if◌then◌else◌, List, [], ◌∷◌, ◌++◌, map}
+use Rattle.std.proofs.Common.{reverse, length, take, drop, Some, refl, sym, ap, ◌∙◌, arith, append_assoc}
 use Rattle.std.specs.List.{filter}
 use Rattle.std.proofs.lemmas.List.{map-append, reverse-append, take-append-drop, length-append}
 use Rattle.std.proofs.lemmas.List.Elements.{filter-append}
@@ -35,23 +36,28 @@ share-append n lane k (x ∷ xs) ys =
     let rest : share n lane (suc k) (xs ++ ys) ≡ share n lane (suc k) xs ++ share n lane (k + length (x ∷ xs)) ys
     = share-append n lane (suc k) xs ys ∙ ap (λ m. share n lane (suc k) xs ++ share n lane m ys) (moved k (length xs)) in
     elim (k % n == lane)
-    as (λ c. (if c then x ∷ share n lane (suc k) (xs ++ ys) else share n lane (suc k) (xs ++ ys)) ≡ (if c then x ∷ share n lane (suc k) xs else share n lane (suc k) xs) ++ share n lane (k + length (x ∷ xs)) ys) [
+    as (λ c. (if c then x ∷ share n lane (suc k) (xs ++ ys) else share n lane (suc k) (xs ++ ys))
+    ≡ (if c then x ∷ share n lane (suc k) xs else share n lane (suc k) xs) ++ share n lane (k + length (x ∷ xs)) ys) [
       | true ↦ ap (λ l. x ∷ l) rest
       | false ↦ rest
     ]
 
-pub got-append : (sound : FullTx → Bool) (n lane k : ℕ) (xs ys : List FullTx) → got sound n lane k (xs ++ ys) ≡ got sound n lane k xs ++ got sound n lane (k + length xs) ys
+pub got-append : (sound : FullTx → Bool) (n lane k : ℕ) (xs ys : List FullTx)
+    → got sound n lane k (xs ++ ys) ≡ got sound n lane k xs ++ got sound n lane (k + length xs) ys
 got-append sound n lane k xs ys =
-    ap (λ l. map compact (filter sound l)) (share-append n lane k xs ys) ∙ ap (map compact) (filter-append sound (share n lane k xs) (share n lane (k + length xs) ys))
+    ap (λ l. map compact (filter sound l)) (share-append n lane k xs ys)
+    ∙ ap (map compact) (filter-append sound (share n lane k xs) (share n lane (k + length xs) ys))
     ∙ map-append compact (filter sound (share n lane k xs)) (filter sound (share n lane (k + length xs) ys))
 
 -- the submission itself goes to its lane alone
-pub got_here : (sound : FullTx → Bool) (n lane k : ℕ) (t : FullTx) (ts : List FullTx) → sound t ≡ true → (k % n == lane) ≡ true → got sound n lane k (t ∷ ts) ≡ compact t ∷ got sound n lane (suc k) ts
+pub got_here : (sound : FullTx → Bool) (n lane k : ℕ) (t : FullTx) (ts : List FullTx) → sound t ≡ true → (k % n == lane) ≡ true
+    → got sound n lane k (t ∷ ts) ≡ compact t ∷ got sound n lane (suc k) ts
 got_here sound n lane k t ts s e =
     ap (λ c. map compact (filter sound (if c then t ∷ share n lane (suc k) ts else share n lane (suc k) ts))) e
     ∙ ap (λ c. map compact (cond c (t ∷ filter sound (share n lane (suc k) ts)) (filter sound (share n lane (suc k) ts)))) s
 
-pub got_elsewhere : (sound : FullTx → Bool) (n lane k : ℕ) (t : FullTx) (ts : List FullTx) → (k % n == lane) ≡ false → got sound n lane k (t ∷ ts) ≡ got sound n lane (suc k) ts
+pub got_elsewhere : (sound : FullTx → Bool) (n lane k : ℕ) (t : FullTx) (ts : List FullTx) → (k % n == lane) ≡ false
+    → got sound n lane k (t ∷ ts) ≡ got sound n lane (suc k) ts
 got_elsewhere sound n lane k t ts e = ap (λ c. map compact (filter sound (if c then t ∷ share n lane (suc k) ts else share n lane (suc k) ts))) e
 
 -- those of the others that a lane gets lack the hash
@@ -59,7 +65,8 @@ abbrev pub EachLacks : (FullTx → Bool) → Digest → List FullTx → Type 0
 EachLacks sound x [] = Unit {0}
 EachLacks sound x (u ∷ us) = (sound u ≡ true → has (compact u).inputs x ≡ false) × EachLacks sound x us
 
-pub each_both : (sound : FullTx → Bool) (x : Digest) (us vs : List FullTx) → EachLacks sound x (us ++ vs) → EachLacks sound x us × EachLacks sound x vs
+pub each_both : (sound : FullTx → Bool) (x : Digest) (us vs : List FullTx) → EachLacks sound x (us ++ vs)
+    → EachLacks sound x us × EachLacks sound x vs
 each_both sound x [] vs h = (tt, h)
 each_both sound x (u ∷ us) vs h = let r = each_both sound x us vs h.1 in ((h.0, r.0), r.1)
 
@@ -68,10 +75,11 @@ got_lack sound x n lane k [] h = tt
 got_lack sound x n lane k (u ∷ us) h =
     let rest : AllLack x (got sound n lane (suc k) us) = got_lack sound x n lane (suc k) us h.1 in
     elim (k % n == lane) as (λ c. AllLack x (map compact (filter sound (if c then u ∷ share n lane (suc k) us else share n lane (suc k) us)))) [
-      | true ↦ elim (sound u) as (λ s. sound u ≡ s → AllLack x (map compact (cond s (u ∷ filter sound (share n lane (suc k) us)) (filter sound (share n lane (suc k) us))))) [
-        | true ↦ λ s. (h.0 s, rest)
-        | false ↦ λ s. rest
-      ] refl
+      | true ↦ elim (sound u) as (λ s. sound u ≡ s
+          → AllLack x (map compact (cond s (u ∷ filter sound (share n lane (suc k) us)) (filter sound (share n lane (suc k) us))))) [
+            | true ↦ λ s. (h.0 s, rest)
+            | false ↦ λ s. rest
+          ] refl
       | false ↦ rest
     ]
 
@@ -82,7 +90,8 @@ joined (p ∷ ps) = p ++ joined ps
 
 pub cut_joined : {A : Type 0} (n : ℕ) (xs : List A) (pieces : List (List A)) → IsCut n xs pieces → joined pieces ≡ xs
 cut_joined n xs [] c = sym c
-cut_joined n xs (piece ∷ pieces) c = ap (λ p. p ++ joined pieces) c.1 ∙ ap (λ r. take n xs ++ r) (cut_joined n (drop n xs) pieces c.2) ∙ take-append-drop n xs
+cut_joined n xs (piece ∷ pieces) c = ap (λ p. p ++ joined pieces) c.1 ∙ ap (λ r. take n xs ++ r) (cut_joined n (drop n xs) pieces c.2)
+    ∙ take-append-drop n xs
 
 -- a new Prepare of the lane: its batch and its transactions
 abbrev pub Told : Type 0
@@ -103,7 +112,8 @@ txs_all ts = map (λ t. t.1) ts
 abbrev pub size_told : Told → Sized
 size_told t = record { batch = t.0; size = length t.1 }
 
-prepared_step : (lane : ℕ) (r : Record) (T : List Told) (P : List (List Compact)) (more old : List Record) → prepared lane (more ++ old) ≡ txs_all T ++ P → prepared lane (r ∷ (more ++ old)) ≡ txs_all (told_before lane r T) ++ P
+prepared_step : (lane : ℕ) (r : Record) (T : List Told) (P : List (List Compact)) (more old : List Record)
+    → prepared lane (more ++ old) ≡ txs_all T ++ P → prepared lane (r ∷ (more ++ old)) ≡ txs_all (told_before lane r T) ++ P
 prepared_step lane (Prepare stamp b txs) T P more old h = elim (b.lane == lane)
     as (λ c. (if c then txs ∷ prepared lane (more ++ old) else prepared lane (more ++ old)) ≡ txs_all (if c then (b, txs) ∷ T else T) ++ P) [
       | true ↦ ap (λ l. txs ∷ l) h
@@ -115,19 +125,24 @@ pub prepared_told : (lane : ℕ) (more old : List Record) → prepared lane (mor
 prepared_told lane [] old = refl
 prepared_told lane (r ∷ more) old = prepared_step lane r (told_in lane more) (prepared lane old) more old (prepared_told lane more old)
 
-one_more : (T : List Told) (z : Told) (others : List Sized) → map size_told (reverse T) ++ size_told z ∷ others ≡ map size_told (reverse (z ∷ T)) ++ others
+one_more : (T : List Told) (z : Told) (others : List Sized)
+    → map size_told (reverse T) ++ size_told z ∷ others ≡ map size_told (reverse (z ∷ T)) ++ others
 one_more T z others =
-    sym (ap (λ l. map size_told l ++ others) (reverse-append (z ∷ []) T) ∙ ap (λ l. l ++ others) (map-append size_told (reverse T) (z ∷ [])) ∙ append_assoc (map size_told (reverse T)) (size_told z ∷ []) others)
+    sym (ap (λ l. map size_told l ++ others) (reverse-append (z ∷ []) T) ∙ ap (λ l. l ++ others) (map-append size_told (reverse T) (z ∷ []))
+    ∙ append_assoc (map size_told (reverse T)) (size_told z ∷ []) others)
 
-sized_step : (lane : ℕ) (r : Record) (others : List Sized) (T : List Told) → map size_told (reverse T) ++ sized_before lane r others ≡ map size_told (reverse (told_before lane r T)) ++ others
+sized_step : (lane : ℕ) (r : Record) (others : List Sized) (T : List Told)
+    → map size_told (reverse T) ++ sized_before lane r others ≡ map size_told (reverse (told_before lane r T)) ++ others
 sized_step lane (Prepare stamp b txs) others T = elim (b.lane == lane)
-    as (λ c. map size_told (reverse T) ++ (if c then size_told (b, txs) ∷ others else others) ≡ map size_told (reverse (if c then (b, txs) ∷ T else T)) ++ others) [
+    as (λ c. map size_told (reverse T) ++ (if c then size_told (b, txs) ∷ others else others)
+    ≡ map size_told (reverse (if c then (b, txs) ∷ T else T)) ++ others) [
       | true ↦ one_more T (b, txs) others
       | false ↦ refl
     ]
 sized_step lane other others T = refl
 
-pub sized_told : (lane : ℕ) (more : List Record) (others : List Sized) → sized_onto lane more others ≡ map size_told (reverse (told_in lane more)) ++ others
+pub sized_told : (lane : ℕ) (more : List Record) (others : List Sized)
+    → sized_onto lane more others ≡ map size_told (reverse (told_in lane more)) ++ others
 sized_told lane [] others = refl
 sized_told lane (r ∷ more) others = sized_told lane more (sized_before lane r others) ∙ sized_step lane r others (told_in lane more)
 
@@ -201,9 +216,11 @@ place_later z rest q =
     back : z.size + q - z.size ≡ q
     back = omega arith
 
-pub place_found : (front : List Told) (b : Batch) (p : List Compact) (back : List Told) (q m : ℕ) → q < length p → m ≡ length (joined (txs_all front)) + q
+pub place_found : (front : List Told) (b : Batch) (p : List Compact) (back : List Told) (q m : ℕ) → q < length p
+    → m ≡ length (joined (txs_all front)) + q
     → place_of (map size_told (front ++ (b, p) ∷ back)) m ≡ Some (record { batch = b; at = q })
-place_found [] b p back q m lt e = ap (place_of (map size_told ((b, p) ∷ back))) (omega (arith, e)) ∙ place_here (size_told (b, p)) (map size_told back) q lt
+place_found [] b p back q m lt e = ap (place_of (map size_told ((b, p) ∷ back))) (omega (arith, e))
+    ∙ place_here (size_told (b, p)) (map size_told back) q lt
 place_found ((c, o) ∷ front) b p back q m lt e =
     ap (place_of (map size_told ((c, o) ∷ (front ++ (b, p) ∷ back)))) (omega (arith, e, length-append o (joined (txs_all front))))
     ∙ place_later (size_told (c, o)) (map size_told (front ++ (b, p) ∷ back)) (length (joined (txs_all front)) + q)

@@ -1,5 +1,6 @@
 -- No stamp is above the greatest one before by more than the number of records that have come.
-use Rattle.std.proofs.Common.{◌≡◌, ◌⊎◌, inl, inr, ℕ, suc, ◌+◌, ◌-◌, ◌<◌, ◌≤◌, List, [], ◌∷◌, ◌++◌, length, refl, sym, ap, ◌∙◌, subst, arith, append_assoc}
+use Rattle.std.proofs.Common.{◌≡◌, ◌⊎◌, inl, inr, ℕ, suc, ◌+◌, ◌-◌, ◌<◌, ◌≤◌, List, [], ◌∷◌, ◌++◌, length, refl, sym, ap, ◌∙◌, subst, arith}
+use Rattle.std.proofs.Common.{append_assoc}
 use Rattle.std.proofs.lemmas.List.{length-append}
 use Rattle.cbdc_model.specs.Records.{Shape, Batch, Compact, Record, Row, journal, record_of, stamp_of, stamp_in, last_stamp, Genesis, Start}
 use Rattle.cbdc_model.specs.Causes.{IsCaused}
@@ -23,7 +24,8 @@ first_stamp (Start header ∷ J) f = refl
 first_stamp (other ∷ J) f = absurd f.0
 
 -- a record's stamp is at most one more than the greatest before it
-caused_most : (K : Shape) (J : ℕ → List Record) (n bound : ℕ) (r : Record) → ((k : ℕ) → last_stamp (J k) ≤ bound) → ((k kind : ℕ) (b : Batch) → stamp_in (record_of kind (J k) b) ≤ bound) → IsCaused K J n r → stamp_of r ≤ suc bound
+caused_most : (K : Shape) (J : ℕ → List Record) (n bound : ℕ) (r : Record) → ((k : ℕ) → last_stamp (J k) ≤ bound)
+    → ((k kind : ℕ) (b : Batch) → stamp_in (record_of kind (J k) b) ≤ bound) → IsCaused K J n r → stamp_of r ≤ suc bound
 caused_most K J n bound r lasts finds c = caused_le K J n bound r lasts (λ kind m b. finds m kind b) c
 
 -- of two beginnings of a list the shorter is one of the longer
@@ -35,7 +37,8 @@ shorter (x ∷ a) (y ∷ b) U V e le = shorter a b U V (tails x y (a ++ U) (b ++
     tails : {A : Type 0} (x y : A) (us vs : List A) → x ∷ us ≡ y ∷ vs → us ≡ vs
     tails x y us vs e = cc
 
-module _ (K : Shape) (m : Minted) (P : Compact → Type 0) (some : 0 < K.shards) (before after : List Row) (old : Steady K m P before) (new : Steady K m P after)
+module _ (K : Shape) (m : Minted) (P : Compact → Type 0) (some : 0 < K.shards) (before after : List Row) (old : Steady K m P before)
+    (new : Steady K m P after)
     (grows : (n : ℕ) → IsEnd (journal n (before ++ first_rows K m)) (journal n (after ++ first_rows K m))) where
   abbrev E : ℕ → List Record
   E n = journal n (before ++ first_rows K m)
@@ -59,7 +62,8 @@ module _ (K : Shape) (m : Minted) (P : Compact → Type 0) (some : 0 < K.shards)
     was_there n V r inside begins ends =
         let le : stamp_of r ≤ last_stamp (E n) = subst (λ L. stamp_of r ≤ last_stamp L) (sym ends.1)
         (further K m P some before old n (r ∷ V) begins (λ L. stamp_of r ≤ last_stamp L) (omega arith)
-        (λ newer rest q e h next le. (let up : last_stamp rest < stamp_of q = after_stamp K n rest q next in omega (arith, le, up))) [] ends.0 ends.1) in
+        (λ newer rest q e h next le. (let up : last_stamp rest < stamp_of q = after_stamp K n rest q next in omega (arith, le, up))) [] ends.0
+        ends.1) in
         omega (arith, le, tops n inside)
 
     abbrev Bounded : List Row → Type 0
@@ -71,7 +75,8 @@ module _ (K : Shape) (m : Minted) (P : Compact → Type 0) (some : 0 < K.shards)
       | away e ↦ omega (arith, ap length (head_away row rows n e))
     ]
 
-    bounded_step : (newer later : List Row) (row : Row) → after ≡ newer ++ row ∷ later → Steady K m P (row ∷ later) → Bounded later → Bounded (row ∷ later)
+    bounded_step : (newer later : List Row) (row : Row) → after ≡ newer ++ row ∷ later → Steady K m P (row ∷ later) → Bounded later
+        → Bounded (row ∷ later)
     bounded_step newer later row e kept h = λ n. elim (at_node row.node n) [
       | away apart ↦ omega (arith, ap last_stamp (head_away row (later ++ first_rows K m) n apart), h n, come_on)
       | at same ↦ omega (arith, ap last_stamp (head_at row (later ++ first_rows K m) n same), own)
@@ -92,7 +97,8 @@ module _ (K : Shape) (m : Minted) (P : Compact → Type 0) (some : 0 < K.shards)
 
         low : stamp_of row.what ≤ suc (top + come (whole later))
         low = caused_most K (whole later) row.node (top + come (whole later)) row.what h
-            (λ n kind b. (let le : stamp_in (record_of kind (whole later n) b) ≤ last_stamp (whole later n) = (all_order K m P some later kept.3 n).stamps_le kind b in omega (arith, le, h n))) kept.1
+            (λ n kind b. (let le : stamp_in (record_of kind (whole later n) b) ≤ last_stamp (whole later n) =
+            (all_order K m P some later kept.3 n).stamps_le kind b in omega (arith, le, h n))) kept.1
 
         -- it was there, or one more has come
         which : (length (whole later row.node) < length (E row.node)) ⊎ (length (E row.node) ≤ length (whole later row.node))
@@ -105,25 +111,29 @@ module _ (K : Shape) (m : Minted) (P : Compact → Type 0) (some : 0 < K.shards)
         begins = (row.what ∷ journal row.node later, ap (λ L. row.what ∷ L) (journal-append row.node later (first_rows K m)))
 
         in_whole : X row.node ≡ journal row.node newer ++ (row.what ∷ whole later row.node)
-        in_whole = ap (λ rows. journal row.node (rows ++ first_rows K m)) e ∙ ap (λ rows. journal row.node rows) (append_assoc newer (row ∷ later) (first_rows K m))
+        in_whole = ap (λ rows. journal row.node (rows ++ first_rows K m)) e
+            ∙ ap (λ rows. journal row.node rows) (append_assoc newer (row ∷ later) (first_rows K m))
             ∙ journal-append row.node newer (row ∷ (later ++ first_rows K m)) ∙ ap (λ L. journal row.node newer ++ L) here
 
         own : stamp_of row.what ≤ top + come (whole (row ∷ later))
         own = elim which [
           | inl lt ↦ (
               let ends : IsEnd (row.what ∷ whole later row.node) (E row.node)
-              = shorter (journal row.node newer) (grows row.node).0 (row.what ∷ whole later row.node) (E row.node) (sym in_whole ∙ (grows row.node).1) (omega (arith, lt)) in
+              = shorter (journal row.node newer) (grows row.node).0 (row.what ∷ whole later row.node) (E row.node)
+              (sym in_whole ∙ (grows row.node).1) (omega (arith, lt)) in
               omega (arith, was_there row.node (whole later row.node) row.what inside begins ends))
           | inr le ↦ (
               let more : come (whole later) + 1 ≤ come (whole (row ∷ later))
               = sum_more (λ n. length (whole later n) - length (E n)) (λ n. length (whole (row ∷ later) n) - length (E n)) row.node 1 N
-              (λ n lt. (let up : length (whole later n) ≤ length (whole (row ∷ later) n) = length_on row (later ++ first_rows K m) n in omega arith)) inside
+              (λ n lt. (let up : length (whole later n) ≤ length (whole (row ∷ later) n) = length_on row (later ++ first_rows K m) n in omega arith))
+              inside
               (let one : length (whole (row ∷ later) row.node) ≡ suc (length (whole later row.node)) = ap length here in omega (arith, one, le)) in
               omega (arith, low, more))
         ]
 
     bounded : (newer later : List Row) → after ≡ newer ++ later → Steady K m P later → Bounded later
-    bounded newer [] e kept = λ n. (let z : last_stamp (journal n (first_rows K m)) ≡ 0 = first_stamp (journal n (first_rows K m)) (journal_first n (first_rows K m) (all_first K m P some)) in omega (arith, z))
+    bounded newer [] e kept = λ n. (let z : last_stamp (journal n (first_rows K m)) ≡ 0 =
+        first_stamp (journal n (first_rows K m)) (journal_first n (first_rows K m) (all_first K m P some)) in omega (arith, z))
     bounded newer (row ∷ later) e kept =
         bounded_step newer later row e kept (bounded (newer ++ row ∷ []) later (e ∙ sym (append_assoc newer (row ∷ []) later)) kept.3)
 
@@ -131,12 +141,14 @@ module _ (K : Shape) (m : Minted) (P : Compact → Type 0) (some : 0 < K.shards)
     last_most n = bounded [] after refl new n
 
     pub found_most : (n kind : ℕ) (b : Batch) → stamp_in (record_of kind (X n) b) ≤ top + come X
-    found_most n kind b = (let le : stamp_in (record_of kind (X n) b) ≤ last_stamp (X n) = (all_order K m P some after new n).stamps_le kind b in omega (arith, le, last_most n))
+    found_most n kind b = (let le : stamp_in (record_of kind (X n) b) ≤ last_stamp (X n) = (all_order K m P some after new n).stamps_le kind b in
+        omega (arith, le, last_most n))
 
     -- a beginning that has the old journal is no later
     pub front_most : (n : ℕ) (V : List Record) → IsEnd (E n) V → IsEnd V (X n) → last_stamp V ≤ top + come X
     front_most n V h v =
         let le : last_stamp V ≤ last_stamp (X n) = subst (λ L. last_stamp V ≤ last_stamp L) (sym v.1)
-        (further K m P some after new n V (end_trans (first_of K m n) (E n) V ((lists K m P some before old).begins n) h) (λ L. last_stamp V ≤ last_stamp L) (omega arith)
+        (further K m P some after new n V (end_trans (first_of K m n) (E n) V ((lists K m P some before old).begins n) h)
+        (λ L. last_stamp V ≤ last_stamp L) (omega arith)
         (λ newer rest q e back next le. (let up : last_stamp rest < stamp_of q = after_stamp K n rest q next in omega (arith, le, up))) [] v.0 v.1) in
         omega (arith, le, last_most n)

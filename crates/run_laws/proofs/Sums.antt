@@ -1,5 +1,6 @@
 -- Sums over lists and over the numbers below one.
-use Rattle.std.proofs.Common.{◌≡◌, ◌≢◌, ℕ, zero, suc, ◌+◌, ◌<◌, ◌≤◌, Bool, true, false, cond, ◌==◌, if◌then◌else◌, List, [], ◌∷◌, ◌++◌, length, take, refl, ap, ◌∙◌, arith}
+use Rattle.std.proofs.Common.{◌≡◌, ◌≢◌, ℕ, zero, suc, ◌+◌, ◌<◌, ◌≤◌, Bool, true, false, cond, ◌==◌, if◌then◌else◌, List, [], ◌∷◌, ◌++◌, length, take}
+use Rattle.std.proofs.Common.{refl, ap, ◌∙◌, arith}
 use Rattle.std.specs.List.{sum_by, filter, flat_map, range_with_len}
 use Rattle.std.proofs.lemmas.List.Sums.{sum_by-cons}
 
@@ -30,15 +31,18 @@ total_taken f [] (suc i) = omega arith
 total_taken f (x ∷ xs) (suc i) = let rest : total f (take i xs) ≤ total f xs = total_taken f xs i in omega arith
 
 -- one behind the first ones comes on top
-pub total_split : {X : Type 0} (f : X → ℕ) (front back : List X) (x : X) (i j : ℕ) → i ≤ length front → length front < j → total f (take i (front ++ x ∷ back)) + f x ≤ total f (take j (front ++ x ∷ back))
+pub total_split : {X : Type 0} (f : X → ℕ) (front back : List X) (x : X) (i j : ℕ) → i ≤ length front → length front < j
+    → total f (take i (front ++ x ∷ back)) + f x ≤ total f (take j (front ++ x ∷ back))
 total_split f [] back x zero (suc j) le lt = omega arith
 total_split f [] back x (suc i) j le lt = absurd (omega arith)
 total_split f [] back x zero zero le lt = absurd (omega arith)
 total_split f (y ∷ front) back x zero zero le lt = absurd (omega arith)
-total_split f (y ∷ front) back x zero (suc j) le lt = let rest : 0 + f x ≤ total f (take j (front ++ x ∷ back)) = total_split f front back x zero j (omega arith) (omega arith) in omega arith
+total_split f (y ∷ front) back x zero (suc j) le lt = let rest : 0 + f x ≤ total f (take j (front ++ x ∷ back)) =
+    total_split f front back x zero j (omega arith) (omega arith) in omega arith
 total_split f (y ∷ front) back x (suc i) zero le lt = absurd (omega arith)
 total_split f (y ∷ front) back x (suc i) (suc j) le lt =
-    let rest : total f (take i (front ++ x ∷ back)) + f x ≤ total f (take j (front ++ x ∷ back)) = total_split f front back x i j (omega arith) (omega arith) in omega arith
+    let rest : total f (take i (front ++ x ∷ back)) + f x ≤ total f (take j (front ++ x ∷ back)) =
+    total_split f front back x i j (omega arith) (omega arith) in omega arith
 
 -- ---- over the numbers below one
 

@@ -24,7 +24,8 @@ taken_law K lane logs shards logs' shards' elsewhere = (
   λ b node f e d. record { made = subst (λ l. Made K [] true l (view_of l) (view_of' l)) e d.made; others = elsewhere },
   λ e s. record {
     made = subst (λ x. Made K [] true lane (view K lane (logs (home_of K lane)) shards) (view K lane x shards')) (sym e)
-        (subst (λ y. Made K [] true lane (view K lane (logs (home_of K lane)) shards) (view K lane (logs (home_of K lane)) y)) (sym s) (made_none K [] true lane (view K lane (logs (home_of K lane)) shards)));
+        (subst (λ y. Made K [] true lane (view K lane (logs (home_of K lane)) shards) (view K lane (logs (home_of K lane)) y)) (sym s)
+        (made_none K [] true lane (view K lane (logs (home_of K lane)) shards)));
     others = elsewhere;
   },
 )
@@ -42,7 +43,8 @@ prepared_out : (lane : ℕ) (r : Record) (J : List Record) → is_in_lane lane r
 prepared_out lane (Prepare stamp b txs) J h = rw h
 prepared_out lane other J h = refl
 
-prepared_here : (lane : ℕ) (r : Record) (I J : List Record) → is_in_lane lane r ≡ true → prepared lane J ≡ batches.prepares_txs I → prepared lane (r ∷ J) ≡ batches.prepares_txs (r ∷ I)
+prepared_here : (lane : ℕ) (r : Record) (I J : List Record) → is_in_lane lane r ≡ true → prepared lane J ≡ batches.prepares_txs I
+    → prepared lane (r ∷ J) ≡ batches.prepares_txs (r ∷ I)
 prepared_here lane (Prepare stamp b txs) I J l h = rw l (ap (λ x. txs ∷ x) h)
 prepared_here lane other I J l h = h
 
@@ -54,12 +56,15 @@ prepared_own lane (r ∷ J) = elim (is_in_lane lane r) as (λ t. is_in_lane lane
 ] refl
 
 module _ (K : Shape) (lane : ℕ) (logs shards logs' shards' : ℕ → Sight) (home : home_of K lane < K.coordinators) where
-  prepared_done : (k : ℕ) (txs : List Compact) (b : Batch) (os : List Outcome) → BatchDone K true lane k txs (logs (home_of K lane)) shards (logs' (home_of K lane)) shards' b os
+  prepared_done : (k : ℕ) (txs : List Compact) (b : Batch) (os : List Outcome)
+      → BatchDone K true lane k txs (logs (home_of K lane)) shards (logs' (home_of K lane)) shards' b os
       → prepared lane (logs' (home_of K lane)).seen ≡ txs ∷ prepared lane (logs (home_of K lane)).seen
   prepared_done k txs b os d =
-      prepared_own lane (logs' (home_of K lane)).seen ∙ ap batches.prepares_txs d.grew.log_is ∙ ap (λ x. txs ∷ x) (sym (prepared_own lane (logs (home_of K lane)).seen))
+      prepared_own lane (logs' (home_of K lane)).seen ∙ ap batches.prepares_txs d.grew.log_is
+      ∙ ap (λ x. txs ∷ x) (sym (prepared_own lane (logs (home_of K lane)).seen))
 
-  prepared_stopped : (txs : List Compact) (node : ℕ) (f : NodeFault) → BatchStopped K true lane txs (logs (home_of K lane)) shards (logs' (home_of K lane)) shards' node f
+  prepared_stopped : (txs : List Compact) (node : ℕ) (f : NodeFault)
+      → BatchStopped K true lane txs (logs (home_of K lane)) shards (logs' (home_of K lane)) shards' node f
       → (prepared lane (logs' (home_of K lane)).seen ≡ prepared lane (logs (home_of K lane)).seen)
       ⊎ (prepared lane (logs' (home_of K lane)).seen ≡ txs ∷ prepared lane (logs (home_of K lane)).seen)
   prepared_stopped txs node f d = elim d.prepares [
@@ -67,12 +72,16 @@ module _ (K : Shape) (lane : ℕ) (logs shards logs' shards' : ℕ → Sight) (h
     | inr e ↦ inr (prepared_own lane (logs' (home_of K lane)).seen ∙ e ∙ ap (λ x. txs ∷ x) (sym (prepared_own lane (logs (home_of K lane)).seen)))
   ]
 
-  prepared_none : IsTurn K [] lane logs shards logs' shards' → prepared lane (logs' (home_of K lane)).seen ≡ prepared lane (logs (home_of K lane)).seen
+  prepared_none : IsTurn K [] lane logs shards logs' shards'
+      → prepared lane (logs' (home_of K lane)).seen ≡ prepared lane (logs (home_of K lane)).seen
   prepared_none turn =
       ap (prepared lane) (sym (seen_log K logs' shards' (home_of K lane) home))
       ∙ none_new K lane (seen_by K logs shards) (seen_by K logs' shards') (lifted K [] lane logs shards logs' shards' home turn) lane (home_of K lane)
       ∙ ap (prepared lane) (seen_log K logs shards (home_of K lane) home)
 
 pub prepared_law : PreparedLaw
-prepared_law K lane logs shards logs' shards' home =
-    (prepared_done K lane logs shards logs' shards' home, prepared_stopped K lane logs shards logs' shards' home, prepared_none K lane logs shards logs' shards' home)
+prepared_law K lane logs shards logs' shards' home = (
+  prepared_done K lane logs shards logs' shards' home,
+  prepared_stopped K lane logs shards logs' shards' home,
+  prepared_none K lane logs shards logs' shards' home,
+)

@@ -20,7 +20,9 @@ sees K lane n = (home_of K lane == n) || not (nat_lt n K.coordinators)
 pub seen_view : (K : Shape) (lane : ℕ) (logs shards : ℕ → Sight) (n : ℕ) → home_of K lane < K.coordinators → sees K lane n ≡ true
     → seen_by K logs shards n ≡ view K lane (logs (home_of K lane)) shards n
 seen_view K lane logs shards n home s =
-    elim (home_of K lane == n) as (λ t. (home_of K lane == n) ≡ t → seen_by K logs shards n ≡ (if t then (logs (home_of K lane)).seen else (if nat_lt n K.coordinators then [] else (shards (n - K.coordinators)).seen))) [
+    elim (home_of K lane == n) as (λ t. (home_of K lane == n) ≡ t
+    → seen_by K logs shards n ≡ (if t then (logs (home_of K lane)).seen
+    else (if nat_lt n K.coordinators then [] else (shards (n - K.coordinators)).seen))) [
       | true ↦ λ t. at_home (is_same t)
       | false ↦ λ t. elsewhere (beyond t)
     ] refl
@@ -37,10 +39,13 @@ seen_view K lane logs shards n home s =
     at_home : home_of K lane ≡ n → seen_by K logs shards n ≡ (logs (home_of K lane)).seen
     at_home e = ap (λ t. if t then (logs n).seen else (shards (n - K.coordinators)).seen) (low e) ∙ ap (λ m. (logs m).seen) (sym e)
 
-    elsewhere : nat_lt n K.coordinators ≡ false → seen_by K logs shards n ≡ (if nat_lt n K.coordinators then [] else (shards (n - K.coordinators)).seen)
-    elsewhere e = ap (λ t. if t then (logs n).seen else (shards (n - K.coordinators)).seen) e ∙ sym (ap (λ t. if t then [] else (shards (n - K.coordinators)).seen) e)
+    elsewhere : nat_lt n K.coordinators ≡ false → seen_by K logs shards n
+        ≡ (if nat_lt n K.coordinators then [] else (shards (n - K.coordinators)).seen)
+    elsewhere e = ap (λ t. if t then (logs n).seen else (shards (n - K.coordinators)).seen) e
+        ∙ sym (ap (λ t. if t then [] else (shards (n - K.coordinators)).seen) e)
 
-module _ (K : Shape) (pieces : List (List Compact)) (lane : ℕ) (logs shards logs' shards' : ℕ → Sight) (home : home_of K lane < K.coordinators) (turn : IsTurn K pieces lane logs shards logs' shards') where
+module _ (K : Shape) (pieces : List (List Compact)) (lane : ℕ) (logs shards logs' shards' : ℕ → Sight) (home : home_of K lane < K.coordinators)
+    (turn : IsTurn K pieces lane logs shards logs' shards') where
   unseen : (n : ℕ) → sees K lane n ≡ false
       → (view K lane (logs' (home_of K lane)) shards' n ≡ []) × (seen_by K logs' shards' n ≡ seen_by K logs shards n)
   unseen n s =
@@ -64,7 +69,8 @@ module _ (K : Shape) (pieces : List (List Compact)) (lane : ℕ) (logs shards lo
       (λ n s. (seen_view K lane logs shards n home s, seen_view K lane logs' shards' n home s)) unseen turn.made
 
   -- so a turn is a wave of one lane
-  pub one_wave : (m : Minted) → NextFrom K m (seen_by K logs shards) (seen_by K logs' shards') → Wave K m (λ l. pieces) (seen_by K logs shards) (seen_by K logs' shards')
+  pub one_wave : (m : Minted) → NextFrom K m (seen_by K logs shards) (seen_by K logs' shards')
+      → Wave K m (λ l. pieces) (seen_by K logs shards) (seen_by K logs' shards')
   one_wave m next = turns_wave K m (λ l. pieces) (seen_by K logs shards) (seen_by K logs' shards') next
       (turns_next K (λ l. pieces) (seen_by K logs shards) (seen_by K logs shards) (seen_by K logs' shards') lane pieces (λ txs h. h)
       (turns_begin K (λ l. pieces) (seen_by K logs shards)) lifted)

@@ -1,7 +1,10 @@
 -- Records that kept journals have newly: each is next, is the one of its kind and batch, and what it makes of a hash's status.
-use Rattle.std.proofs.Common.{◌≡◌, ℕ, suc, ◌<◌, Bool, true, false, ◌&&◌, ◌==◌, if◌then◌else◌, List, [], ◌∷◌, ◌++◌, Some, is_some, refl, sym, ap, ◌∙◌, subst, arith, append_assoc}
-use Rattle.cbdc_model.specs.Records.{Digest, Shape, Batch, same_batch, Compact, Entry, Answered, Record, Row, journal, record_of, kind_of, is_of, is_held, entries_in, txs_of, lock_of, Genesis, Lock, Finish, Start}
-use Rattle.cbdc_model.specs.Status.{Status, status, has, held_inputs, made_outputs, returned_inputs, taken_inputs, finished_status, Unspent, Locked, Absent}
+use Rattle.std.proofs.Common.{◌≡◌, ℕ, suc, ◌<◌, Bool, true, false, ◌&&◌, ◌==◌, if◌then◌else◌, List, [], ◌∷◌, ◌++◌, Some, is_some, refl, sym, ap, ◌∙◌}
+use Rattle.std.proofs.Common.{subst, arith, append_assoc}
+use Rattle.cbdc_model.specs.Records.{Digest, Shape, Batch, same_batch, Compact, Entry, Answered, Record, Row, journal, record_of, kind_of, is_of}
+use Rattle.cbdc_model.specs.Records.{is_held, entries_in, txs_of, lock_of, Genesis, Lock, Finish, Start}
+use Rattle.cbdc_model.specs.Status.{Status, status, has, held_inputs, made_outputs, returned_inputs, taken_inputs, finished_status, Unspent, Locked}
+use Rattle.cbdc_model.specs.Status.{Absent}
 use Rattle.cbdc_model.specs.Replies.{entries}
 use Rattle.cbdc_model.specs.Ranges.{home_of, shard_node, on_shard, is_empty, entry_of, part}
 use Rattle.cbdc_model.specs.History.{Minted, first_rows}
@@ -59,17 +62,21 @@ taken_lacks x (a ∷ es) (d ∷ ds) h =
     ]
 
 -- a Finish of entries that don't spend the hash leaves it Unspent
-stays_unspent : (x : Digest) (es : List Answered) (ds : List Bool) (before : Status) → NoneSpends x (entries es) → before ≡ Unspent → finished_status es ds x before ≡ Unspent
+stays_unspent : (x : Digest) (es : List Answered) (ds : List Bool) (before : Status) → NoneSpends x (entries es) → before ≡ Unspent
+    → finished_status es ds x before ≡ Unspent
 stays_unspent x es ds before h e =
-    elim (has (made_outputs es ds) x) as (λ c. (if c then Unspent else (if has (returned_inputs es ds) x then Unspent else (if has (taken_inputs es ds) x then Absent else before))) ≡ Unspent) [
+    elim (has (made_outputs es ds) x) as (λ c. (if c then Unspent
+    else (if has (returned_inputs es ds) x then Unspent else (if has (taken_inputs es ds) x then Absent else before))) ≡ Unspent) [
       | true ↦ refl
-      | false ↦ elim (has (returned_inputs es ds) x) as (λ c. (if c then Unspent else (if has (taken_inputs es ds) x then Absent else before)) ≡ Unspent) [
-        | true ↦ refl
-        | false ↦ ap (λ c. if c then Absent else before) (taken_lacks x es ds h) ∙ e
-      ]
+      | false ↦ elim (has (returned_inputs es ds) x) as
+          (λ c. (if c then Unspent else (if has (taken_inputs es ds) x then Absent else before)) ≡ Unspent) [
+            | true ↦ refl
+            | false ↦ ap (λ c. if c then Absent else before) (taken_lacks x es ds h) ∙ e
+          ]
     ]
 
-module _ (K : Shape) (minting : Minted) (P : Compact → Type 0) (some : 0 < K.shards) (before after : List Row) (kept : Steady K minting P before) (kept' : Steady K minting P after) where
+module _ (K : Shape) (minting : Minted) (P : Compact → Type 0) (some : 0 < K.shards) (before after : List Row) (kept : Steady K minting P before)
+    (kept' : Steady K minting P after) where
   abbrev I : ℕ → List Record
   I n = journal n (before ++ first_rows K minting)
 
@@ -78,7 +85,8 @@ module _ (K : Shape) (minting : Minted) (P : Compact → Type 0) (some : 0 < K.s
 
   pub next_in : (n : ℕ) (newer rest : List Record) (r : Record) → J n ≡ newer ++ r ∷ rest → IsEnd (I n) rest → Next K n rest r
   next_in n newer rest r e h =
-      ((lists_of K minting P some after kept').each n newer rest r e (end_trans (first_of K minting n) (I n) rest ((lists_of K minting P some before kept).begins n) h)).0
+      ((lists_of K minting P some after kept').each n newer rest r e
+      (end_trans (first_of K minting n) (I n) rest ((lists_of K minting P some before kept).begins n) h)).0
 
   oks_from : (n : ℕ) (more newer : List Record) → J n ≡ newer ++ (more ++ I n) → JournalOk (more ++ I n) × MoreOk (more ++ I n)
   oks_from n [] newer e = ((all_structure K minting P some before kept).journals n, all_more K minting P some before kept n)
@@ -91,17 +99,20 @@ module _ (K : Shape) (minting : Minted) (P : Compact → Type 0) (some : 0 < K.s
   oks_in n newer rest e h = subst (λ L. JournalOk L × MoreOk L) (sym h.1) (oks_from n h.0 newer (e ∙ ap (λ L. newer ++ L) h.1))
 
   -- a batch has one record of a kind at a node
-  pub never_twice : (n : ℕ) (newer rest : List Record) (r : Record) (kind : ℕ) (c : Batch) → J n ≡ newer ++ r ∷ rest → IsEnd (I n) rest → ((kind_of r == kind) && is_of c r) ≡ true
+  pub never_twice : (n : ℕ) (newer rest : List Record) (r : Record) (kind : ℕ) (c : Batch) → J n ≡ newer ++ r ∷ rest → IsEnd (I n) rest
+      → ((kind_of r == kind) && is_of c r) ≡ true
       → is_some (record_of kind rest c) ≡ true → ⊥
   never_twice n newer rest r kind c e h t f =
       let oks = oks_in n (newer ++ r ∷ []) rest (e ∙ sym (append_assoc newer (r ∷ []) rest)) h in
       once K n rest oks.0 oks.1 r (next_in n newer rest r e h) kind c t f
 
-  found_up : (n kind : ℕ) (c : Batch) (r : Record) (rest newer front : List Record) → J n ≡ front ++ (newer ++ r ∷ rest) → IsEnd (I n) rest → ((kind_of r == kind) && is_of c r) ≡ true
+  found_up : (n kind : ℕ) (c : Batch) (r : Record) (rest newer front : List Record) → J n ≡ front ++ (newer ++ r ∷ rest) → IsEnd (I n) rest
+      → ((kind_of r == kind) && is_of c r) ≡ true
       → record_of kind (newer ++ r ∷ rest) c ≡ Some r
   found_up n kind c r rest [] front e h t = found_new kind r rest c t
   found_up n kind c r rest (q ∷ newer) front e h t =
-      let below : record_of kind (newer ++ r ∷ rest) c ≡ Some r = found_up n kind c r rest newer (front ++ q ∷ []) (e ∙ sym (append_assoc front (q ∷ []) (newer ++ r ∷ rest))) h t in
+      let below : record_of kind (newer ++ r ∷ rest) c ≡ Some r =
+      found_up n kind c r rest newer (front ++ q ∷ []) (e ∙ sym (append_assoc front (q ∷ []) (newer ++ r ∷ rest))) h t in
       let end : IsEnd (I n) (newer ++ r ∷ rest) = (newer ++ r ∷ h.0, ap (λ L. newer ++ r ∷ L) h.1 ∙ sym (append_assoc newer (r ∷ h.0) (I n))) in
       elim ((kind_of q == kind) && is_of c q) as (λ u. ((kind_of q == kind) && is_of c q) ≡ u → record_of kind (q ∷ (newer ++ r ∷ rest)) c ≡ Some r) [
         | true ↦ λ u. absurd (never_twice n front (newer ++ r ∷ rest) q kind c e end u (ap is_some below))
@@ -109,7 +120,8 @@ module _ (K : Shape) (minting : Minted) (P : Compact → Type 0) (some : 0 < K.s
       ] refl
 
   -- so a new record is the one that is found
-  pub found_at : (n kind : ℕ) (c : Batch) (newer rest : List Record) (r : Record) → J n ≡ newer ++ r ∷ rest → IsEnd (I n) rest → ((kind_of r == kind) && is_of c r) ≡ true → record_of kind (J n) c ≡ Some r
+  pub found_at : (n kind : ℕ) (c : Batch) (newer rest : List Record) (r : Record) → J n ≡ newer ++ r ∷ rest → IsEnd (I n) rest
+      → ((kind_of r == kind) && is_of c r) ≡ true → record_of kind (J n) c ≡ Some r
   found_at n kind c newer rest r e h t = ap (λ L. record_of kind L c) e ∙ found_up n kind c r rest newer [] e h t
 
   -- a batch of the wave: prepared in it
@@ -135,46 +147,64 @@ module _ (K : Shape) (minting : Minted) (P : Compact → Type 0) (some : 0 < K.s
       Spares past = (c : Batch) → IsNew c → (c ≡ b → ⊥) → NoneSpends x (entries (lock_of past c))
 
       -- the entries of a new batch's Lock
-      lock_lacks : (newer rest : List Record) (stamp : ℕ) (c : Batch) (es : List Answered) → J n ≡ newer ++ Lock stamp c es ∷ rest → IsEnd (I n) rest → (c ≡ b → ⊥) → NoneSpends x (entries es)
+      lock_lacks : (newer rest : List Record) (stamp : ℕ) (c : Batch) (es : List Answered) → J n ≡ newer ++ Lock stamp c es ∷ rest → IsEnd (I n) rest
+          → (c ≡ b → ⊥) → NoneSpends x (entries es)
       lock_lacks newer rest stamp c es e h apart =
           let found : record_of 2 (J n) c ≡ Some (Lock stamp c es) = found_at n 2 c newer rest (Lock stamp c es) e h (test_itself 2 c) in
-          let is : entries (lock_of (J n) c) ≡ part K.shards s 0 (txs_of (J (home_of K c.lane)) c) = (all_structure K minting P some after kept').lock_part s c (ap is_some found) in
+          let is : entries (lock_of (J n) c) ≡ part K.shards s 0 (txs_of (J (home_of K c.lane)) c) =
+          (all_structure K minting P some after kept').lock_part s c (ap is_some found) in
           let es_are : entries es ≡ part K.shards s 0 (txs_of (J (home_of K c.lane)) c) = ap (λ o. entries (entries_in o)) (sym found) ∙ is in
-          subst (NoneSpends x) (sym es_are) (part_lacks x K.shards s 0 (txs_of (J (home_of K c.lane)) c) (lacks c (of_new n newer rest (Lock stamp c es) c e h (test_itself 2 c)) apart))
+          subst (NoneSpends x) (sym es_are) (part_lacks x K.shards s 0 (txs_of (J (home_of K c.lane)) c)
+          (lacks c (of_new n newer rest (Lock stamp c es) c e h (test_itself 2 c)) apart))
 
       pub record Stays (past : List Record) : Type 0 where
         pub unspent : status past x ≡ Unspent
         pub spares : Spares past
 
-      lock_step : (newer past : List Record) (stamp : ℕ) (c : Batch) (es : List Answered) → NoneSpends x (entries es) → Stays past → Stays (Lock stamp c es ∷ past)
+      lock_step : (newer past : List Record) (stamp : ℕ) (c : Batch) (es : List Answered) → NoneSpends x (entries es) → Stays past
+          → Stays (Lock stamp c es ∷ past)
       lock_step newer past stamp c es none stays = record {
         unspent = ap (λ t. if t then Locked c else status past x) (held_lacks x es none) ∙ stays.unspent;
-        spares = λ d new apart. elim ((2 == 2) && same_batch c d) as (λ t. ((2 == 2) && same_batch c d) ≡ t → NoneSpends x (entries (lock_of (Lock stamp c es ∷ past) d))) [
-          | true ↦ λ t. subst (λ o. NoneSpends x (entries (entries_in o))) (sym (found_new 2 (Lock stamp c es) past d t)) none
-          | false ↦ λ t. subst (λ o. NoneSpends x (entries (entries_in o))) (sym (test_step 2 (Lock stamp c es) past d t)) (stays.spares d new apart)
-        ] refl;
+        spares = λ d new apart. elim ((2 == 2) && same_batch c d) as
+            (λ t. ((2 == 2) && same_batch c d) ≡ t → NoneSpends x (entries (lock_of (Lock stamp c es ∷ past) d))) [
+              | true ↦ λ t. subst (λ o. NoneSpends x (entries (entries_in o))) (sym (found_new 2 (Lock stamp c es) past d t)) none
+              | false ↦ λ t. subst (λ o. NoneSpends x (entries (entries_in o))) (sym (test_step 2 (Lock stamp c es) past d t))
+                  (stays.spares d new apart)
+            ] refl;
       }
 
-      step : (newer past : List Record) (r : Record) → J n ≡ newer ++ r ∷ past → IsEnd (I n) past → (has_lock (r ∷ past) b ≡ true → ⊥) → Stays past → Stays (r ∷ past)
+      step : (newer past : List Record) (r : Record) → J n ≡ newer ++ r ∷ past → IsEnd (I n) past → (has_lock (r ∷ past) b ≡ true → ⊥) → Stays past
+          → Stays (r ∷ past)
       step newer past (Genesis header hs) e h free stays = absurd (next_in n newer past (Genesis header hs) e h)
       step newer past (Start header) e h free stays = absurd (next_in n newer past (Start header) e h)
       step newer past (Lock stamp c es) e h free stays =
-          lock_step newer past stamp c es (lock_lacks newer past stamp c es e h (λ same. free (ap is_some (found_new 2 (Lock stamp c es) past b (subst (λ d. ((2 == 2) && same_batch c d) ≡ true) same (test_itself 2 c)))))) stays
+          lock_step newer past stamp c es (lock_lacks newer past stamp c es e h
+          (λ same. free (ap is_some (found_new 2 (Lock stamp c es) past b
+          (subst (λ d. ((2 == 2) && same_batch c d) ≡ true) same (test_itself 2 c)))))) stays
       step newer past (Finish stamp c ds) e h free stays =
           let next = next_in n newer past (Finish stamp c ds) e h in
-          let locked : has_lock past c ≡ true = ((oks_in n (newer ++ Finish stamp c ds ∷ []) past (e ∙ sym (append_assoc newer (Finish stamp c ds ∷ []) past)) h).0.locked c next.2 next.3).0 in
+          let locked : has_lock past c ≡ true = ((oks_in n (newer ++ Finish stamp c ds ∷ []) past
+          (e ∙ sym (append_assoc newer (Finish stamp c ds ∷ []) past)) h).0.locked c next.2 next.3).0 in
           record {
-            unspent = stays_unspent x (lock_of past c) ds (status past x) (stays.spares c (of_new n newer past (Finish stamp c ds) c e h (test_itself 3 c)) (λ same. free (subst (λ d. has_lock past d ≡ true) same locked))) stays.unspent;
+            unspent = stays_unspent x (lock_of past c) ds (status past x)
+                (stays.spares c (of_new n newer past (Finish stamp c ds) c e h (test_itself 3 c))
+                (λ same. free (subst (λ d. has_lock past d ≡ true) same locked))) stays.unspent;
             spares = stays.spares;
           }
       step newer past other e h free stays = record { unspent = stays.unspent; spares = stays.spares }
 
-      go : status (I n) x ≡ Unspent → (more newer : List Record) → J n ≡ newer ++ (more ++ I n) → (has_lock (more ++ I n) b ≡ true → ⊥) → Stays (more ++ I n)
-      go base [] newer e free = record { unspent = base; spares = λ c new apart. subst (λ es. NoneSpends x (entries es)) (sym (no_lock (I n) c (not_true _ (never_locked c n new)))) tt }
+      go : status (I n) x ≡ Unspent → (more newer : List Record) → J n ≡ newer ++ (more ++ I n) → (has_lock (more ++ I n) b ≡ true → ⊥)
+          → Stays (more ++ I n)
+      go base [] newer e free = record {
+        unspent = base;
+        spares = λ c new apart. subst (λ es. NoneSpends x (entries es)) (sym (no_lock (I n) c (not_true _ (never_locked c n new)))) tt;
+      }
       go base (r ∷ more) newer e free =
           step newer (more ++ I n) r e (more, refl) free
           (go base more (newer ++ r ∷ []) (e ∙ shifted newer more r (I n)) (λ h. free (still_found (r ∷ []) (more ++ I n) 2 b h)))
 
-      pub unspent_until : (newer rest : List Record) → J n ≡ newer ++ rest → IsEnd (I n) rest → (has_lock rest b ≡ true → ⊥) → status (I n) x ≡ Unspent → status rest x ≡ Unspent
+      pub unspent_until : (newer rest : List Record) → J n ≡ newer ++ rest → IsEnd (I n) rest → (has_lock rest b ≡ true → ⊥)
+          → status (I n) x ≡ Unspent → status rest x ≡ Unspent
       unspent_until newer rest e h free base =
-          subst (λ L. status L x ≡ Unspent) (sym h.1) (go base h.0 newer (e ∙ ap (λ L. newer ++ L) h.1) (λ f. free (subst (λ L. has_lock L b ≡ true) (sym h.1) f))).unspent
+          subst (λ L. status L x ≡ Unspent) (sym h.1)
+          (go base h.0 newer (e ∙ ap (λ L. newer ++ L) h.1) (λ f. free (subst (λ L. has_lock L b ≡ true) (sym h.1) f))).unspent

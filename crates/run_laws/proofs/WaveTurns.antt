@@ -1,5 +1,6 @@
 -- How far a run has come: through the lanes that an earlier run left open, and through its files.
-use Rattle.std.proofs.Common.{◌≡◌, ◌≢◌, ◌⊎◌, inl, inr, ℕ, suc, ◌<◌, ◌≤◌, Bool, true, false, ◌&&◌, ◌==◌, List, [], ◌∷◌, ◌++◌, is_some, refl, sym, ap, ◌∙◌, subst, arith}
+use Rattle.std.proofs.Common.{◌≡◌, ◌≢◌, ◌⊎◌, inl, inr, ℕ, suc, ◌<◌, ◌≤◌, Bool, true, false, ◌&&◌, ◌==◌, List, [], ◌∷◌, ◌++◌, is_some, refl, sym, ap}
+use Rattle.std.proofs.Common.{◌∙◌, subst, arith}
 use Rattle.cbdc_model.specs.Records.{Shape, Batch, Record, record_of, is_of, Genesis}
 use Rattle.cbdc_model.specs.Ranges.{home_of}
 use Rattle.cbdc_model.specs.Slots.{slot, Idle}
@@ -19,7 +20,8 @@ use Rattle.run_laws.proofs.NewRecords.{in_journal, still_found}
 adds_none : (P : Batch → Type 0) (J : ℕ → List Record) → Adds P J J
 adds_none P J = record { grows = λ n. end_self (J n); each = λ n newer rest r e h. absurd (no_room (J n) newer rest r h.0 h.1 e) }
 
-pub adds_on : (P Q R : Batch → Type 0) (I J X : ℕ → List Record) → ((b : Batch) → P b → R b) → ((b : Batch) → Q b → R b) → Adds P I J → Adds Q J X → Adds R I X
+pub adds_on : (P Q R : Batch → Type 0) (I J X : ℕ → List Record) → ((b : Batch) → P b → R b) → ((b : Batch) → Q b → R b) → Adds P I J → Adds Q J X
+    → Adds R I X
 adds_on P Q R I J X p q a b = record {
   grows = λ n. end_trans (I n) (J n) (X n) (a.grows n) (b.grows n);
   each = λ n newer rest r e h. elim (cut (b.grows n).0 (J n) newer rest r (sym (b.grows n).1 ∙ e)) [
@@ -51,7 +53,8 @@ resuming_begins_law K E = record { adds = adds_none _ E; idle = λ lane lt. absu
 
 pub resuming_step_law : ResumingStepLaw
 resuming_step_law K lane b E J J' so resumes = record {
-  adds = adds_on (λ c. (has_prepare K E c ≡ true) × (has_done K E c ≡ false)) (λ c. c ≡ b) (λ c. (has_prepare K E c ≡ true) × (has_done K E c ≡ false)) E J J'
+  adds = adds_on (λ c. (has_prepare K E c ≡ true) × (has_done K E c ≡ false)) (λ c. c ≡ b)
+      (λ c. (has_prepare K E c ≡ true) × (has_done K E c ≡ false)) E J J'
       (λ c h. h)
       (λ c e. subst (λ d. (has_prepare K E d ≡ true) × (has_done K E d ≡ false)) (sym e)
       (before, not_before 9 b (E (home_of K b.lane)) (J (home_of K b.lane)) (so.adds.grows (home_of K b.lane)) resumes.undone))
@@ -107,7 +110,8 @@ pub waves_begin_law : WavesBeginLaw
 waves_begin_law K sound E R resumed = (R, resumed, λ n. refl)
 
 -- one file more behind the others
-files_more : (K : Shape) (sound : FullTx → Bool) (files : List (List FullTx)) (file : List FullTx) (R J X : ℕ → List Record) → AreFilesRun K sound files R J → IsFileRun K (sent_to K sound file) J X
+files_more : (K : Shape) (sound : FullTx → Bool) (files : List (List FullTx)) (file : List FullTx) (R J X : ℕ → List Record)
+    → AreFilesRun K sound files R J → IsFileRun K (sent_to K sound file) J X
     → AreFilesRun K sound (files ++ file ∷ []) R X
 files_more K sound [] file R J X h run = (X, subst (λ Z. IsFileRun K (sent_to K sound file) Z X) (λ i n. h n i) run, λ n. refl)
 files_more K sound (first ∷ files) file R J X h run = (h.0, h.1, files_more K sound files file h.0 J X h.2 run)

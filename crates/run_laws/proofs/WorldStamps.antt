@@ -1,6 +1,8 @@
 -- Each stamp above 2^62 is at most one more than those before it, so none is further above it than there are such records.
-use Rattle.std.proofs.Common.{◌≡◌, ℕ, suc, ◌+◌, ◌^◌, ◌<◌, ◌≤◌, ◌/◌, Bool, true, false, nat_lt, if◌then◌else◌, List, [], ◌∷◌, ◌++◌, length, refl, sym, subst, arith}
-use Rattle.cbdc_model.specs.Records.{Shape, Batch, Compact, Record, Row, journal, record_of, stamp_of, stamp_in, last_stamp, kind_of, Genesis, Lock, Finish, Forget, Start, Prepare, Commit, Discard, Done}
+use Rattle.std.proofs.Common.{◌≡◌, ℕ, suc, ◌+◌, ◌^◌, ◌<◌, ◌≤◌, ◌/◌, Bool, true, false, nat_lt, if◌then◌else◌, List, [], ◌∷◌, ◌++◌, length, refl, sym}
+use Rattle.std.proofs.Common.{subst, arith}
+use Rattle.cbdc_model.specs.Records.{Shape, Batch, Compact, Record, Row, journal, record_of, stamp_of, stamp_in, last_stamp, kind_of, Genesis, Lock}
+use Rattle.cbdc_model.specs.Records.{Finish, Forget, Start, Prepare, Commit, Discard, Done}
 use Rattle.cbdc_model.specs.Causes.{IsCaused, at_shards}
 use Rattle.cbdc_model.specs.Ranges.{shard_node}
 use Rattle.cbdc_model.specs.History.{Minted, first_rows}
@@ -13,7 +15,8 @@ pub use Rattle.ledger_laws.proofs.ByKind.{lane_in}
 use Rattle.run_laws.proofs.Codes.{code_of}
 
 -- a caused record's stamp is at most one more than all that stand
-pub caused_le : (K : Shape) (J : ℕ → List Record) (n top : ℕ) (r : Record) → ((m : ℕ) → last_stamp (J m) ≤ top) → ((kind m : ℕ) (b : Batch) → stamp_in (record_of kind (J m) b) ≤ top)
+pub caused_le : (K : Shape) (J : ℕ → List Record) (n top : ℕ) (r : Record) → ((m : ℕ) → last_stamp (J m) ≤ top)
+    → ((kind m : ℕ) (b : Batch) → stamp_in (record_of kind (J m) b) ≤ top)
     → IsCaused K J n r → stamp_of r ≤ suc top
 caused_le K J n top (Prepare stamp b txs) low all c = omega (arith, low n, c)
 caused_le K J n top (Lock stamp b es) low all c = omega (arith, low n, all 6 (b.lane / K.lanes) b, c.2)
@@ -33,7 +36,8 @@ is_late r = nat_lt (2 ^ 62) (stamp_of r)
 -- the codes of the rows with stamps above 2^62
 abbrev pub late_codes : Shape → List Row → List ℕ
 late_codes K [] = []
-late_codes K (row ∷ later) = if is_late row.what then code_of K (lane_in row.what) row.node (kind_of row.what) ∷ late_codes K later else late_codes K later
+late_codes K (row ∷ later) = if is_late row.what then code_of K (lane_in row.what) row.node (kind_of row.what) ∷ late_codes K later
+    else late_codes K later
 
 is_above : (n : ℕ) → nat_lt (2 ^ 62) n ≡ true → 2 ^ 62 < n
 is_above n t = grind arith
@@ -45,16 +49,21 @@ pub late_above : (r : Record) → is_late r ≡ true → 2 ^ 62 < stamp_of r
 late_above r t = is_above (stamp_of r) t
 
 more_codes : (K : Shape) (row : Row) (later : List Row) → length (late_codes K later) ≤ length (late_codes K (row ∷ later))
-more_codes K row later = elim (is_late row.what) as (λ t. length (late_codes K later) ≤ length (if t then code_of K (lane_in row.what) row.node (kind_of row.what) ∷ late_codes K later else late_codes K later)) [
-  | true ↦ omega arith
-  | false ↦ omega arith
-]
+more_codes K row later = elim (is_late row.what) as
+    (λ t. length (late_codes K later) ≤ length (if t then code_of K (lane_in row.what) row.node (kind_of row.what) ∷ late_codes K later
+    else late_codes K later)) [
+      | true ↦ omega arith
+      | false ↦ omega arith
+    ]
 
-new_stamp : (K : Shape) (row : Row) (later : List Row) → stamp_of row.what ≤ suc (2 ^ 62 + length (late_codes K later)) → stamp_of row.what ≤ 2 ^ 62 + length (late_codes K (row ∷ later))
-new_stamp K row later le = elim (is_late row.what) as (λ t. is_late row.what ≡ t → stamp_of row.what ≤ 2 ^ 62 + length (if t then code_of K (lane_in row.what) row.node (kind_of row.what) ∷ late_codes K later else late_codes K later)) [
-  | true ↦ λ t. omega (arith, le)
-  | false ↦ λ t. omega (arith, is_low (stamp_of row.what) t)
-] refl
+new_stamp : (K : Shape) (row : Row) (later : List Row) → stamp_of row.what ≤ suc (2 ^ 62 + length (late_codes K later))
+    → stamp_of row.what ≤ 2 ^ 62 + length (late_codes K (row ∷ later))
+new_stamp K row later le = elim (is_late row.what) as
+    (λ t. is_late row.what ≡ t → stamp_of row.what ≤ 2 ^ 62
+    + length (if t then code_of K (lane_in row.what) row.node (kind_of row.what) ∷ late_codes K later else late_codes K later)) [
+      | true ↦ λ t. omega (arith, le)
+      | false ↦ λ t. omega (arith, is_low (stamp_of row.what) t)
+    ] refl
 
 first_low : (J : List Record) → AllFirst J → last_stamp J ≤ 2 ^ 62 + 0
 first_low [] h = omega arith
@@ -67,7 +76,8 @@ module _ (K : Shape) (minting : Minted) (P : Compact → Type 0) (shards : 0 < K
   whole later n = journal n (later ++ first_rows K minting)
 
   -- all that is found is no newer than the last
-  pub found_le : (later : List Row) → Steady K minting P later → (top : ℕ) → ((m : ℕ) → last_stamp (whole later m) ≤ top) → (kind m : ℕ) (b : Batch) → stamp_in (record_of kind (whole later m) b) ≤ top
+  pub found_le : (later : List Row) → Steady K minting P later → (top : ℕ) → ((m : ℕ) → last_stamp (whole later m) ≤ top) → (kind m : ℕ) (b : Batch)
+      → stamp_in (record_of kind (whole later m) b) ≤ top
   found_le later kept top low kind m b = omega (arith, (all_order K minting P shards later kept m).stamps_le kind b, low m)
 
   pub stamps_le : (later : List Row) → Steady K minting P later → (n : ℕ) → last_stamp (whole later n) ≤ 2 ^ 62 + length (late_codes K later)

@@ -1,7 +1,8 @@
 -- Room on the disks, and stamps, for every record that is still to come.
 use Rattle.std.specs.Prelude.{◌≡◌, ℕ, ◌+◌, ◌*◌, ◌^◌, ◌<◌, ◌≤◌, Bool, not, ◌==◌, List, [], ◌∷◌, ◌++◌, length, sum_by, is_some, if◌then◌else◌}
 use Rattle.std.specs.List.{filter, flat_map, range_with_len}
-use Rattle.cbdc_model.specs.Records.{Shape, Compact, Entry, Record, record_of, txs_of, last_stamp, lock_kind, finish_kind, forget_kind, prepare_kind, commit_kind, discard_kind, done_kind}
+use Rattle.cbdc_model.specs.Records.{Shape, Compact, Entry, Record, record_of, txs_of, last_stamp, lock_kind, finish_kind, forget_kind, prepare_kind}
+use Rattle.cbdc_model.specs.Records.{commit_kind, discard_kind, done_kind}
 use Rattle.cbdc_model.specs.Slots.{slot}
 use Rattle.cbdc_model.specs.Ranges.{home_of, shard_node, part}
 use Rattle.cbdc_model.specs.Causes.{greatest}
@@ -39,7 +40,8 @@ coming_at_shard node (e ∷ es) =
 
 -- all records of a lane's batch of these transactions
 abbrev pub records_of : Shape → ℕ → List Compact → List Coming
-records_of K lane txs = at_coordinator K lane txs ++ flat_map (λ s. coming_at_shard (shard_node K s) (part K.shards s 0 txs)) (range_with_len 0 K.shards)
+records_of K lane txs = at_coordinator K lane txs
+    ++ flat_map (λ s. coming_at_shard (shard_node K s) (part K.shards s 0 txs)) (range_with_len 0 K.shards)
 
 -- those that the lane's open batch has not written yet, none where the lane is idle
 abbrev pub unwritten : Shape → (ℕ → List Record) → ℕ → List Coming

@@ -15,9 +15,12 @@ pub record BeginsWave (K : Shape) (sound : FullTx → Bool) (files : List (List 
 
 -- each file's wave begins somewhere between the journals at entry and at exit
 abbrev pub BeginLaw : Type 0
-BeginLaw = (K : Shape) (sound : FullTx → Bool) (files : List (List FullTx)) (k : ℕ) (E X : ℕ → List Record) → Waves K sound files E X → (M : ℕ → List Record) × BeginsWave K sound files k E X M
+BeginLaw = (K : Shape) (sound : FullTx → Bool) (files : List (List FullTx)) (k : ℕ) (E X : ℕ → List Record) → Waves K sound files E X
+    → (M : ℕ → List Record) × BeginsWave K sound files k E X M
 
 -- and where the journals at entry and at exit are kept, so are those at which a file's wave begins
 abbrev pub BetweenLaw : Type 0
-BetweenLaw = (K : Shape) (mint : List Output) (submissions : List FullTx) (sound : FullTx → Bool) (files : List (List FullTx)) (k : ℕ) (E X M : ℕ → List Record)
-    → 0 < K.shards → KeptJournals K mint submissions E → KeptJournals K mint submissions X → BeginsWave K sound files k E X M → KeptJournals K mint submissions M
+BetweenLaw = (K : Shape) (mint : List Output) (submissions : List FullTx) (sound : FullTx → Bool) (files : List (List FullTx)) (k : ℕ)
+    (E X M : ℕ → List Record)
+    → 0 < K.shards → KeptJournals K mint submissions E → KeptJournals K mint submissions X → BeginsWave K sound files k E X M
+    → KeptJournals K mint submissions M

@@ -14,4 +14,5 @@ pub record CheckedJournals (K : Shape) (m : Minted) (J : ℕ → List Record) : 
 
 -- kept journals are so
 abbrev pub KeptIsCheckedLaw : Type 0
-KeptIsCheckedLaw = (K : Shape) (mint : List Output) (submissions : List FullTx) (J : ℕ → List Record) → KeptJournals K mint submissions J → CheckedJournals K (minted mint) J
+KeptIsCheckedLaw = (K : Shape) (mint : List Output) (submissions : List FullTx) (J : ℕ → List Record) → KeptJournals K mint submissions J
+    → CheckedJournals K (minted mint) J

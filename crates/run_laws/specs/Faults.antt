@@ -25,9 +25,12 @@ GrantLaw = (K : Shape) (m : Minted) (logs shards : ℕ → Sight) (b : Batch) (t
 -- the record that the lane needs next at this node: where it is idle, its next Prepare at its coordinator, of transactions that are next; where its
 -- batch is prepared, the Lock of a concerned shard that has not come to this batch, each lesser one having its Lock
 pub data IsNext (K : Shape) (lane : ℕ) (next : List Compact → Type 0) (J : ℕ → List Record) (node : ℕ) (r : Record) : Type 0 where
-  next_prepare : (txs : List Compact) → next txs → node ≡ home_of K lane → (slot (J node) lane).phase ≡ Idle → r ≡ prepare_record (J node) lane txs → IsNext K lane next J node r
-  next_lock : (b : Batch) (t : ℕ) (txs : List Compact) (s : ℕ) → b.lane ≡ lane → node ≡ shard_node K s → is_concerned K txs s ≡ true → (slot (J (home_of K b.lane)) b.lane).phase ≡ InPrepare
-      → record_of prepare_kind (J (home_of K b.lane)) b ≡ Some (Prepare t b txs) → HaveBelow K txs (λ k. J (shard_node K k)) lock_kind b s → (slot (J node) b.lane).number < b.number
+  next_prepare : (txs : List Compact) → next txs → node ≡ home_of K lane → (slot (J node) lane).phase ≡ Idle → r ≡ prepare_record (J node) lane txs
+      → IsNext K lane next J node r
+  next_lock : (b : Batch) (t : ℕ) (txs : List Compact) (s : ℕ) → b.lane ≡ lane → node ≡ shard_node K s → is_concerned K txs s ≡ true
+      → (slot (J (home_of K b.lane)) b.lane).phase ≡ InPrepare
+      → record_of prepare_kind (J (home_of K b.lane)) b ≡ Some (Prepare t b txs) → HaveBelow K txs (λ k. J (shard_node K k)) lock_kind b s
+      → (slot (J node) b.lane).number < b.number
       → r ≡ lock_record (J node) (record { batch = b; part = part K.shards s 0 txs; cause = t }) → IsNext K lane next J node r
 
 -- the node, on a disk of so many bytes, has no room for what that record needs, whose stamp is not past the last one
@@ -67,7 +70,8 @@ pub record HasHeard (K : Shape) (lane : ℕ) (J : ℕ → List Record) (b : Batc
 pub data IsAsked (K : Shape) (lane : ℕ) (next : List Compact → Type 0) (J : ℕ → List Record) (node : ℕ) : Type 0 where
   asks_prepare : (txs : List Compact) → next txs → node ≡ home_of K lane → (slot (J (home_of K lane)) lane).phase ≡ Idle → IsAsked K lane next J node
   asks_log : (b : Batch) (txs : List Compact) → node ≡ home_of K lane → HasHeard K lane J b txs K.shards → IsAsked K lane next J node
-  asks_shard : (b : Batch) (txs : List Compact) (s : ℕ) → node ≡ shard_node K s → is_concerned K txs s ≡ true → HasHeard K lane J b txs s → IsAsked K lane next J node
+  asks_shard : (b : Batch) (txs : List Compact) (s : ℕ) → node ≡ shard_node K s → is_concerned K txs s ≡ true → HasHeard K lane J b txs s
+      → IsAsked K lane next J node
 
 -- it is a node of the ledger that the lane asks, whose disk has failed since it was opened
 pub record HasFailed (K : Shape) (lane : ℕ) (next : List Compact → Type 0) (J : ℕ → List Record) (opened faults : ℕ → ℕ) (node : ℕ) : Type 0 where
@@ -100,7 +104,8 @@ capacity_by K logs shards n = if nat_lt n K.coordinators then (logs n).capacity 
 -- in checked journals a fault of a new batch, of these transactions, and one of an open batch, is one of these
 abbrev pub StopLaw : Type 0
 StopLaw = (K : Shape) (m : Minted) (lane : ℕ) (logs shards : ℕ → Sight) (txs : List Compact) (node : ℕ) (f : NodeFault)
-    → IsWithinLimits K → home_of K lane < K.coordinators → (logs (home_of K lane)).header.shape ≡ K → ((s : ℕ) → s < K.shards → (shards s).header.shape ≡ K)
+    → IsWithinLimits K → home_of K lane < K.coordinators → (logs (home_of K lane)).header.shape ≡ K
+    → ((s : ℕ) → s < K.shards → (shards s).header.shape ≡ K)
     → CheckedJournals K m (seen_by K logs shards)
     → (IsBatchFault K lane txs (logs (home_of K lane)) shards node f
     → IsStopBy K lane (λ t. t ≡ txs) (seen_by K logs shards) (opened_by K logs shards) (faults_by K logs shards) (capacity_by K logs shards) node f)

@@ -20,7 +20,8 @@ flying K logs shards n = if nat_lt n K.coordinators then (logs n).flight else (s
 -- what is in flight behind a turn was so before, or is caused by what the journals have, with transactions that pass
 abbrev pub FlownLaw : Type 0
 FlownLaw = (K : Shape) (submissions : List FullTx) (pieces : List (List Compact)) (lane : ℕ) (logs shards logs' shards' : ℕ → Sight)
-    → home_of K lane < K.coordinators → AllPass (IsProperCompact submissions) pieces → Elsewhere K lane logs logs' → Flown K pieces lane (logs (home_of K lane)) shards (logs' (home_of K lane)) shards'
+    → home_of K lane < K.coordinators → AllPass (IsProperCompact submissions) pieces → Elsewhere K lane logs logs'
+    → Flown K pieces lane (logs (home_of K lane)) shards (logs' (home_of K lane)) shards'
     → (n : ℕ) (r : Record) → flying K logs' shards' n ≡ Some r
     → (flying K logs shards n ≡ Some r) ⊎ (Seen K (seen_by K logs' shards') n (seen_by K logs' shards' n) r × TxsPass (IsProperCompact submissions) r)
 

@@ -30,7 +30,8 @@ pub record IsConfirmed (K : Shape) (sound : FullTx → Bool) (before : List Full
 -- a sound submission is confirmed where its inputs' hashes are Unspent when its file's wave begins, and no other sound submission of the
 -- file spends one of them
 abbrev pub FreeLaw : Type 0
-FreeLaw = (K : Shape) (mint : List Output) (submissions : List FullTx) (sound : FullTx → Bool) (before : List FullTx) (t : FullTx) (behind : List FullTx)
+FreeLaw = (K : Shape) (mint : List Output) (submissions : List FullTx) (sound : FullTx → Bool) (before : List FullTx) (t : FullTx)
+    (behind : List FullTx)
     (I J : ℕ → List Record) (more : List Record)
     → 0 < K.shards → 0 < K.coordinators * K.lanes → KeptJournals K mint submissions I → KeptJournals K mint submissions J
     → IsFileRun K (sent_to K sound (before ++ t ∷ behind)) I J → J (home_of K (lane_behind K before)) ≡ more ++ I (home_of K (lane_behind K before))

@@ -25,4 +25,5 @@ FreeRunLaw = (K : Shape) (mint : List Output) (submissions : List FullTx) (sound
     → AreFilesRun K sound earlier R M → IsFileRun K (sent_to K sound (before ++ t ∷ behind)) M N → AreFilesRun K sound later N X
     → X (home_of K (lane_behind K before)) ≡ more ++ R (home_of K (lane_behind K before))
     → sound t ≡ true → ((x : Digest) → has (compact t).inputs x ≡ true → IsUnspent K M x) → IsAlone sound t (before ++ behind)
-    → IsWonAt (lane_behind K before) (length (sent_of_all K sound earlier (lane_behind K before)) + sound_behind K sound before) more (X (home_of K (lane_behind K before)))
+    → IsWonAt (lane_behind K before) (length (sent_of_all K sound earlier (lane_behind K before)) + sound_behind K sound before) more
+    (X (home_of K (lane_behind K before)))

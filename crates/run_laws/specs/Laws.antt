@@ -8,7 +8,8 @@ use Rattle.cbdc_model.specs.Clean.{Clean, IsProperCompact}
 use Rattle.cbdc_model.specs.Coins.{Output, FullTx}
 use Rattle.cbdc_model.specs.Ranges.{shard_node}
 use Rattle.cbdc_model.specs.Headline.{NoneTwice, NoIdTwice}
-use Rattle.cbdc_model.specs.History.{Minted, minted, header_of, first_rows, TxsPass, IsSteady, IsKept, history_of, committed, all_inputs, AreCommitted}
+use Rattle.cbdc_model.specs.History.{Minted, minted, header_of, first_rows, TxsPass, IsSteady, IsKept, history_of, committed, all_inputs}
+use Rattle.cbdc_model.specs.History.{AreCommitted}
 use Rattle.cbdc_model.specs.Lanes.{IsEnd, Seen}
 use Rattle.cbdc_model.specs.World.{World, EventsPass, AreIdle, KeptJournals, KeptWorld, count_of, ShardCall, batch_of, IsConcerned, CauseStands}
 use Rattle.ledger_laws.specs.Laws.{IsCallGranted}
@@ -31,7 +32,8 @@ SpentLaw = (K : Shape) (mint : List Output) (submissions : List FullTx) (later :
 
 -- where every lane is idle no hash waits, and none is still to come
 abbrev pub NoneOpenLaw : Type 0
-NoneOpenLaw = (K : Shape) (mint : List Output) (submissions : List FullTx) (later : List Row) (x : Digest) → 0 < K.shards → 0 < K.lanes → Clean mint submissions
+NoneOpenLaw = (K : Shape) (mint : List Output) (submissions : List FullTx) (later : List Row) (x : Digest) → 0 < K.shards → 0 < K.lanes
+    → Clean mint submissions
     → IsKept K mint submissions later → AreIdle K (λ n. journal n (history_of K mint later))
     → (IsWaiting K (history_of K mint later) x → ⊥) × (IsComing K (history_of K mint later) x → ⊥)
 
@@ -91,4 +93,5 @@ CheckedLaw = (K : Shape) (m : Minted) (later : List Row) → 0 < K.shards → Is
 -- a shard has no record of a batch but Locks, Finishes and Forgets
 abbrev pub ShardKindsLaw : Type 0
 ShardKindsLaw = (K : Shape) (mint : List Output) (submissions : List FullTx) (later : List Row) (s kind : ℕ) (b : Batch) → s < K.shards
-    → IsKept K mint submissions later → ((kind ≡ lock_kind) ⊎ (kind ≡ finish_kind) ⊎ (kind ≡ forget_kind) → ⊥) → count_of kind (journal (shard_node K s) (history_of K mint later)) b ≡ 0
+    → IsKept K mint submissions later → ((kind ≡ lock_kind) ⊎ (kind ≡ finish_kind) ⊎ (kind ≡ forget_kind) → ⊥)
+    → count_of kind (journal (shard_node K s) (history_of K mint later)) b ≡ 0

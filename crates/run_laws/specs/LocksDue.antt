@@ -1,5 +1,6 @@
 -- Locks that are still to come.
-use Rattle.std.specs.Prelude.{◌≡◌, ℕ, zero, suc, ◌+◌, ◌*◌, ◌^◌, ◌<◌, ◌≤◌, max, Bool, true, ◌&&◌, not, List, [], ◌∷◌, ◌++◌, length, if◌then◌else◌, is_some}
+use Rattle.std.specs.Prelude.{◌≡◌, ℕ, zero, suc, ◌+◌, ◌*◌, ◌^◌, ◌<◌, ◌≤◌, max, Bool, true, ◌&&◌, not, List, [], ◌∷◌, ◌++◌, length, if◌then◌else◌}
+use Rattle.std.specs.Prelude.{is_some}
 use Rattle.cbdc_model.specs.Records.{Shape, Record, record_of, txs_of, stamp_in, last_stamp, Lock, lock_kind, prepare_kind}
 use Rattle.cbdc_model.specs.Ranges.{shard_node, home_of, part, is_no_part}
 use Rattle.cbdc_model.specs.Due.{open_batch}

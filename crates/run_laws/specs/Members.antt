@@ -11,4 +11,5 @@ CompactLaw = (t : FullTx) → length t.inputs ≤ 255 → length t.outputs ≤ 2
 
 -- that of a sound submission is that of a proper one
 abbrev pub MemberLaw : Type 0
-MemberLaw = (submissions : List FullTx) (t : FullTx) (verdicts : Verdicts) → Contains submissions t → IsSoundTx t verdicts → IsProperCompact submissions (compact t)
+MemberLaw = (submissions : List FullTx) (t : FullTx) (verdicts : Verdicts) → Contains submissions t → IsSoundTx t verdicts
+    → IsProperCompact submissions (compact t)

@@ -39,7 +39,8 @@ IsOpenBy InDiscard K b log shards =
 -- in kept journals the batch of a lane's slot at its coordinator is open as the slot's phase says
 abbrev pub ResumeLaw : Type 0
 ResumeLaw = (K : Shape) (mint : List Output) (submissions : List FullTx) (lane : ℕ) (logs shards : ℕ → Sight)
-    → 0 < K.shards → home_of K lane < K.coordinators → (logs (home_of K lane)).header.shape ≡ K → KeptJournals K mint submissions (seen_by K logs shards)
+    → 0 < K.shards → home_of K lane < K.coordinators → (logs (home_of K lane)).header.shape ≡ K
+    → KeptJournals K mint submissions (seen_by K logs shards)
     → IsOpenBy (slot (logs (home_of K lane)).seen lane).phase K (open_batch (logs (home_of K lane)).seen lane) (logs (home_of K lane)) shards
 
 -- and in checked journals

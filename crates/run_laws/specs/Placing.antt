@@ -29,7 +29,8 @@ pub record IsTxPlaced (lane q : ℕ) (t : Compact) (more J : List Record) : Type
 
 -- each sound submission of a run has its one place in the new Prepares of its lane, and nothing else has one
 abbrev pub PlaceLaw : Type 0
-PlaceLaw = (K : Shape) (mint : List Output) (submissions : List FullTx) (sound : FullTx → Bool) (files : List (List FullTx)) (lane : ℕ) (I J : ℕ → List Record) (more : List Record)
+PlaceLaw = (K : Shape) (mint : List Output) (submissions : List FullTx) (sound : FullTx → Bool) (files : List (List FullTx)) (lane : ℕ)
+    (I J : ℕ → List Record) (more : List Record)
     → 0 < K.shards → lane < K.coordinators * K.lanes → KeptJournals K mint submissions I → KeptJournals K mint submissions J → AreIdle K I
     → AreFilesRun K sound files I J → J (home_of K lane) ≡ more ++ I (home_of K lane)
     → ((q : ℕ) (t : Compact) → tx_at (sent_of_all K sound files lane) q ≡ Some t → IsTxPlaced lane q t more (J (home_of K lane)))

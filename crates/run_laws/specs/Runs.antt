@@ -30,7 +30,8 @@ pub record IsTurn (K : Shape) (pieces : List (List Compact)) (lane : ℕ) (logs 
 
 -- a turn of a lane keeps the journals
 abbrev pub TurnLaw : Type 0
-TurnLaw = (K : Shape) (mint : List Output) (submissions : List FullTx) (pieces : List (List Compact)) (lane : ℕ) (logs shards logs' shards' : ℕ → Sight)
+TurnLaw = (K : Shape) (mint : List Output) (submissions : List FullTx) (pieces : List (List Compact)) (lane : ℕ)
+    (logs shards logs' shards' : ℕ → Sight)
     → 0 < K.shards → home_of K lane < K.coordinators → AllPass (IsProperCompact submissions) pieces
     → KeptJournals K mint submissions (seen_by K logs shards) → IsTurn K pieces lane logs shards logs' shards'
     → NextFrom K (minted mint) (seen_by K logs shards) (seen_by K logs' shards') → KeptJournals K mint submissions (seen_by K logs' shards')
@@ -45,14 +46,17 @@ CheckedTurnLaw = (K : Shape) (m : Minted) (pieces : List (List Compact)) (lane :
 -- in kept journals a lane that is idle at its coordinator is settled at each shard
 abbrev pub RestLaw : Type 0
 RestLaw = (K : Shape) (mint : List Output) (submissions : List FullTx) (lane : ℕ) (logs shards : ℕ → Sight)
-    → 0 < K.shards → home_of K lane < K.coordinators → (logs (home_of K lane)).header.shape ≡ K → KeptJournals K mint submissions (seen_by K logs shards)
-    → (slot (logs (home_of K lane)).seen lane).phase ≡ Idle → Settled K lane (slot (logs (home_of K lane)).seen lane).number (logs (home_of K lane)) shards
+    → 0 < K.shards → home_of K lane < K.coordinators → (logs (home_of K lane)).header.shape ≡ K
+    → KeptJournals K mint submissions (seen_by K logs shards)
+    → (slot (logs (home_of K lane)).seen lane).phase ≡ Idle
+    → Settled K lane (slot (logs (home_of K lane)).seen lane).number (logs (home_of K lane)) shards
 
 -- and in checked journals
 abbrev pub CheckedRestLaw : Type 0
 CheckedRestLaw = (K : Shape) (m : Minted) (lane : ℕ) (logs shards : ℕ → Sight)
     → 0 < K.shards → home_of K lane < K.coordinators → (logs (home_of K lane)).header.shape ≡ K → CheckedJournals K m (seen_by K logs shards)
-    → (slot (logs (home_of K lane)).seen lane).phase ≡ Idle → Settled K lane (slot (logs (home_of K lane)).seen lane).number (logs (home_of K lane)) shards
+    → (slot (logs (home_of K lane)).seen lane).phase ≡ Idle
+    → Settled K lane (slot (logs (home_of K lane)).seen lane).number (logs (home_of K lane)) shards
 
 -- what a turn of a lane leaves of the other lanes: their slots, and no new Prepare
 pub record LeavesOthers (K : Shape) (lane : ℕ) (I J : ℕ → List Record) : Type 0 where
@@ -62,7 +66,8 @@ pub record LeavesOthers (K : Shape) (lane : ℕ) (I J : ℕ → List Record) : T
 -- a turn of a lane changes no other lane's slot and prepares nothing for it
 abbrev pub OthersLaw : Type 0
 OthersLaw = (K : Shape) (pieces : List (List Compact)) (lane : ℕ) (logs shards logs' shards' : ℕ → Sight)
-    → home_of K lane < K.coordinators → IsTurn K pieces lane logs shards logs' shards' → LeavesOthers K lane (seen_by K logs shards) (seen_by K logs' shards')
+    → home_of K lane < K.coordinators → IsTurn K pieces lane logs shards logs' shards'
+    → LeavesOthers K lane (seen_by K logs shards) (seen_by K logs' shards')
 
 -- each node's journal is one of its header, or there is no such node
 abbrev pub AreJournals : Shape → Minted → (ℕ → List Record) → Type 0
@@ -82,14 +87,16 @@ ProperLaw = (t : FullTx) (verdicts : Verdicts) → IsProper t ↔ ((r : Refusal)
 
 -- what is kept stays kept when more is submitted
 abbrev pub GrowLaw : Type 0
-GrowLaw = (K : Shape) (mint : List Output) (submissions more : List FullTx) (J : ℕ → List Record) → ((t : FullTx) → Contains submissions t → Contains more t)
+GrowLaw = (K : Shape) (mint : List Output) (submissions more : List FullTx) (J : ℕ → List Record)
+    → ((t : FullTx) → Contains submissions t → Contains more t)
     → KeptJournals K mint submissions J → KeptJournals K mint more J
 
 -- where journals are kept and every lane's slot is idle, the sentence holds of them
 abbrev pub EndLaw : Type 0
 EndLaw = (K : Shape) (mint : List Output) (submissions : List FullTx) (logs shards : ℕ → Sight)
     → 0 < K.shards → 0 < K.lanes → Clean mint submissions → KeptJournals K mint submissions (seen_by K logs shards)
-    → ((lane : ℕ) → lane < K.coordinators * K.lanes → (slot (logs (home_of K lane)).seen lane).phase ≡ Idle) → Headline K mint submissions (seen_by K logs shards)
+    → ((lane : ℕ) → lane < K.coordinators * K.lanes → (slot (logs (home_of K lane)).seen lane).phase ≡ Idle)
+    → Headline K mint submissions (seen_by K logs shards)
 
 -- the parts of a batch within the limits are within them
 abbrev pub PartLaw : Type 0

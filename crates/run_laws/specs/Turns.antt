@@ -22,9 +22,11 @@ Elsewhere K lane logs logs' = (n : ℕ) → n ≢ home_of K lane → logs' n ≡
 abbrev pub TakenLaw : Type 0
 TakenLaw = (K : Shape) (lane : ℕ) (logs shards logs' shards' : ℕ → Sight) → Elsewhere K lane logs logs'
     → ((k : ℕ) (txs : List Compact) (b : Batch) (os : List Outcome)
-    → BatchDone K true lane k txs (logs (home_of K lane)) shards (logs' (home_of K lane)) shards' b os → IsTurn K (txs ∷ []) lane logs shards logs' shards')
+    → BatchDone K true lane k txs (logs (home_of K lane)) shards (logs' (home_of K lane)) shards' b os
+    → IsTurn K (txs ∷ []) lane logs shards logs' shards')
     × ((txs : List Compact) (node : ℕ) (f : NodeFault)
-    → BatchStopped K true lane txs (logs (home_of K lane)) shards (logs' (home_of K lane)) shards' node f → IsTurn K (txs ∷ []) lane logs shards logs' shards')
+    → BatchStopped K true lane txs (logs (home_of K lane)) shards (logs' (home_of K lane)) shards' node f
+    → IsTurn K (txs ∷ []) lane logs shards logs' shards')
     × ((b : Batch) → b.lane ≡ lane
     → IsTakenUp K true b (logs (home_of K lane)) shards (logs' (home_of K lane)) shards' → IsTurn K [] lane logs shards logs' shards')
     × ((b : Batch) (node : ℕ) (f : NodeFault) → b.lane ≡ lane
@@ -39,7 +41,8 @@ SeenLaw = (K : Shape) (logs shards : ℕ → Sight)
 -- every journal grows at its end over a turn
 abbrev pub EndsLaw : Type 0
 EndsLaw = (K : Shape) (pieces : List (List Compact)) (lane : ℕ) (logs shards logs' shards' : ℕ → Sight)
-    → home_of K lane < K.coordinators → IsTurn K pieces lane logs shards logs' shards' → (n : ℕ) → IsEnd (seen_by K logs shards n) (seen_by K logs' shards' n)
+    → home_of K lane < K.coordinators → IsTurn K pieces lane logs shards logs' shards' → (n : ℕ)
+    → IsEnd (seen_by K logs shards n) (seen_by K logs' shards' n)
 
 -- a turn's new Prepares of its lane: that of a done batch; that of a stopped one or none; none where there was none to make
 abbrev pub PreparedLaw : Type 0

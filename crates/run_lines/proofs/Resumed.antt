@@ -27,4 +27,5 @@ count_at K lane E X (Some r) at = ap (λ p. if is_some p then 1 else 0) (sym (ph
 pub count_below : (K : Shape) (E X : ℕ → List Record) (n : ℕ) (rs : List ResumedBatch) → TellResumed K E X n rs → length rs ≡ open_below K E n
 count_below K E X zero rs none = ap length none
 count_below K E X (suc lane) rs (before, found, all, at, e) =
-    ap length e ∙ length-append before (none_or_one found) ∙ ap (λ m. m + length (none_or_one found)) (count_below K E X lane before all) ∙ ap (λ m. open_below K E lane + m) (count_at K lane E X found at)
+    ap length e ∙ length-append before (none_or_one found) ∙ ap (λ m. m + length (none_or_one found)) (count_below K E X lane before all)
+    ∙ ap (λ m. open_below K E lane + m) (count_at K lane E X found at)

@@ -11,7 +11,8 @@ use Rattle.run_lines.specs.declared.report.Counts.{Counts}
 use Rattle.line_text.specs.Lines.{summary_text}
 use Rattle.line_text.specs.declared.summary.Summary.{Summary}
 use Rattle.file_runs.specs.declared.ran.Ran.{Ran}
-use Rattle.run_lines.specs.Told.{told_report, one_where, told_count, told_total, batches_in, batches_told, IsCounted, AreCounts, AreNumbers, numbers_of}
+use Rattle.run_lines.specs.Told.{told_report, one_where, told_count, told_total, batches_in, batches_told, IsCounted, AreCounts, AreNumbers}
+use Rattle.run_lines.specs.Told.{numbers_of}
 
 -- two counts as one
 pub counted_more : (a b s m n t : ℕ) → IsCounted a m → IsCounted b n → s ≡ min (a + b) 18446744073709551615 → t ≡ m + n → IsCounted s t
@@ -21,7 +22,8 @@ counted_more a b s m n t one two is both = λ fits.
     omega (arith, first, second, is, both, fits)
 
 pub counts_more : (a b s : Counts) (m n t : (Report → Bool) → ℕ) → AreCounts a m → AreCounts b n
-    → s.confirmed ≡ min (a.confirmed + b.confirmed) 18446744073709551615 → s.rejected ≡ min (a.rejected + b.rejected) 18446744073709551615 → s.refused ≡ min (a.refused + b.refused) 18446744073709551615
+    → s.confirmed ≡ min (a.confirmed + b.confirmed) 18446744073709551615 → s.rejected ≡ min (a.rejected + b.rejected) 18446744073709551615
+    → s.refused ≡ min (a.refused + b.refused) 18446744073709551615
     → ((test : Report → Bool) → t test ≡ m test + n test) → AreCounts s t
 counts_more a b s m n t one two confirmed rejected refused both = (
   counted_more a.confirmed b.confirmed s.confirmed (m is_confirmed) (n is_confirmed) (t is_confirmed) one.0 two.0 confirmed (both is_confirmed),
@@ -29,7 +31,8 @@ counts_more a b s m n t one two confirmed rejected refused both = (
   counted_more a.refused b.refused s.refused (m is_refused) (n is_refused) (t is_refused) one.2 two.2 refused (both is_refused),
 )
 
-count_append : (test : Report → Bool) (lanes : List Lane) (a b : List Checked) → told_count test lanes (a ++ b) ≡ told_count test lanes a + told_count test lanes b
+count_append : (test : Report → Bool) (lanes : List Lane) (a b : List Checked)
+    → told_count test lanes (a ++ b) ≡ told_count test lanes a + told_count test lanes b
 count_append test lanes [] b = omega arith
 count_append test lanes (c ∷ a) b = let r = count_append test lanes a b in omega (arith, r)
 
@@ -51,19 +54,25 @@ total_next test ws i w low is =
     ap (told_total test) (take_more ws i w low ∙ ap (λ x. take i ws ++ x ∷ []) (sym is)) ∙ omega (arith, a)
 
 -- one lane more, and the lanes of one file
-pub lane_next : (xs : List Lane) (i : ℕ) (x : Lane) → i < length xs → x ≡ get_or xs i x → batches_in (take (i + 1) xs) ≡ batches_in (take i xs) + x.batches
+pub lane_next : (xs : List Lane) (i : ℕ) (x : Lane) → i < length xs → x ≡ get_or xs i x
+    → batches_in (take (i + 1) xs) ≡ batches_in (take i xs) + x.batches
 lane_next xs i x low is = sum_by_more (λ y. y.batches) xs i x low ∙ ap (λ y. batches_in (take i xs) + y.batches) (sym is)
 
-pub batches_next : (ws : List Wave) (i : ℕ) (w : Wave) → i < length ws → w ≡ get_or ws i w → batches_told (take (i + 1) ws) ≡ batches_told (take i ws) + batches_in w.lanes.items
-batches_next ws i w low is = sum_by_more (λ v. batches_in v.lanes.items) ws i w low ∙ ap (λ v. batches_told (take i ws) + batches_in v.lanes.items) (sym is)
+pub batches_next : (ws : List Wave) (i : ℕ) (w : Wave) → i < length ws → w ≡ get_or ws i w
+    → batches_told (take (i + 1) ws) ≡ batches_told (take i ws) + batches_in w.lanes.items
+batches_next ws i w low is = sum_by_more (λ v. batches_in v.lanes.items) ws i w low
+    ∙ ap (λ v. batches_told (take i ws) + batches_in v.lanes.items) (sym is)
 
 -- the numbers behind the lines of a run
-pub numbers_text : (ran : Ran) (s : Summary) → AreNumbers ran s → summary_text s.resumed s.batches s.confirmed s.rejected s.refused s.unspent ≡ numbers_of ran
+pub numbers_text : (ran : Ran) (s : Summary) → AreNumbers ran s
+    → summary_text s.resumed s.batches s.confirmed s.rejected s.refused s.unspent ≡ numbers_of ran
 numbers_text ran s is =
     let ws = ran.waves.items in
     ap (λ n. summary_text n s.batches s.confirmed s.rejected s.refused s.unspent) is.resumed
     ∙ ap (λ n. summary_text (length ran.resumed.items) n s.confirmed s.rejected s.refused s.unspent) is.batches
     ∙ ap (λ n. summary_text (length ran.resumed.items) (batches_told ws) n s.rejected s.refused s.unspent) is.confirmed
     ∙ ap (λ n. summary_text (length ran.resumed.items) (batches_told ws) (told_total is_confirmed ws) n s.refused s.unspent) is.rejected
-    ∙ ap (λ n. summary_text (length ran.resumed.items) (batches_told ws) (told_total is_confirmed ws) (told_total is_rejected ws) n s.unspent) is.refused
-    ∙ ap (summary_text (length ran.resumed.items) (batches_told ws) (told_total is_confirmed ws) (told_total is_rejected ws) (told_total is_refused ws)) is.unspent
+    ∙ ap (λ n. summary_text (length ran.resumed.items) (batches_told ws) (told_total is_confirmed ws) (told_total is_rejected ws) n s.unspent)
+    is.refused
+    ∙ ap (summary_text (length ran.resumed.items) (batches_told ws) (told_total is_confirmed ws) (told_total is_rejected ws)
+    (told_total is_refused ws)) is.unspent

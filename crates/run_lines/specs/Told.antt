@@ -1,5 +1,6 @@
 -- What the waves of a run tell of its submissions, and their lines.
-use Rattle.std.specs.Prelude.{◌≡◌, ◌≤◌, ℕ, suc, ◌+◌, length, sum_by, Bool, if◌then◌else◌, List, [], ◌∷◌, ◌++◌, Option, Some, None, option_map, slice_get}
+use Rattle.std.specs.Prelude.{◌≡◌, ◌≤◌, ℕ, suc, ◌+◌, length, sum_by, Bool, if◌then◌else◌, List, [], ◌∷◌, ◌++◌, Option, Some, None, option_map}
+use Rattle.std.specs.Prelude.{slice_get}
 use Rattle.cbdc_model.specs.Records.{Digest}
 use Rattle.submissions.specs.declared.Checked.{Checked}
 use Rattle.submissions.specs.declared.Judgement.{Judgement}
@@ -88,7 +89,8 @@ pub record AreNumbers (ran : Ran) (s : Summary) : Type 0 where
 -- the numbers that end the text of a run, as lines
 abbrev pub numbers_of : Ran → Text
 numbers_of ran =
-    summary_text (length ran.resumed.items) (batches_told ran.waves.items) (told_total is_confirmed ran.waves.items) (told_total is_rejected ran.waves.items) (told_total is_refused ran.waves.items) ran.unspent
+    summary_text (length ran.resumed.items) (batches_told ran.waves.items) (told_total is_confirmed ran.waves.items)
+    (told_total is_rejected ran.waves.items) (told_total is_refused ran.waves.items) ran.unspent
 
 -- what a run that tells this prints: the lines of its files, which count from 1, and these numbers
 abbrev pub ran_text : Ran → Text

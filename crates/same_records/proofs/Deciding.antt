@@ -13,7 +13,8 @@ use Rattle.base_types.specs.contracts.hash.HashPartialEq.TheImpl as hash
 use Rattle.cbdc_types.specs.contracts.record.HeaderPartialEq.TheImpl as header
 use Rattle.cbdc_types.specs.contracts.record.RecordPartialEq.TheImpl as of_record
 use Rattle.cbdc_types.specs.contracts.tx.CompactTxPartialEq.TheImpl as compact
-use Rattle.cbdc_model.specs.Records.{Digest, Entry, Answered, Reply, Held, Missing, Taken, Outcome, Won, Lacks, Blocked, Header, Compact, Record, Genesis, Lock, Finish, Forget, Start, Prepare, Commit, Discard, Done}
+use Rattle.cbdc_model.specs.Records.{Digest, Entry, Answered, Reply, Held, Missing, Taken, Outcome, Won, Lacks, Blocked, Header, Compact, Record}
+use Rattle.cbdc_model.specs.Records.{Genesis, Lock, Finish, Forget, Start, Prepare, Commit, Discard, Done}
 
 -- a test that says yes of the same alone, and always of the same
 decided : {A : Type 0} (E : A → A → Bool) → ((x y : A) → E x y ≡ true → x ≡ y) → ((x : A) → E x x ≡ true) → (x y : A) → Decides (E x y) (x ≡ y)

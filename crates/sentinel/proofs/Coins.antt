@@ -1,12 +1,14 @@
 -- The hashes of a transaction's coins, one after another.
-use Rattle.std.proofs.Common.{◌≡◌, ℕ, suc, ◌+◌, ◌≤◌, ◌<◌, List, [], ◌∷◌, ◌++◌, length, map, drop, get_or, refl, sym, ap, ◌∙◌, append_assoc, add-one, arith}
+use Rattle.std.proofs.Common.{◌≡◌, ℕ, suc, ◌+◌, ◌≤◌, ◌<◌, List, [], ◌∷◌, ◌++◌, length, map, drop, get_or, refl, sym, ap, ◌∙◌, append_assoc, add-one}
+use Rattle.std.proofs.Common.{arith}
 use Rattle.std.proofs.Math.Seq.{drop-cons}
 use Rattle.std.proofs.lemmas.List.{append-nil, drop_all}
 use Rattle.cbdc_model.specs.Records.{Digest}
 use Rattle.cbdc_model.specs.Coins.{Output, Coin, coin_hash, made_coins}
 
 -- one more hash
-pub one_more : (id : Digest) (outputs : List Output) (i : ℕ) (o : Output) (h : Digest) (before all : List Digest) → i < length outputs → o ≡ get_or outputs i o
+pub one_more : (id : Digest) (outputs : List Output) (i : ℕ) (o : Output) (h : Digest) (before all : List Digest) → i < length outputs
+    → o ≡ get_or outputs i o
     → h ≡ coin_hash (record { point = record { tx = id; index = i }; output = o })
     → before ++ map coin_hash (made_coins id i (drop i outputs)) ≡ all
     → (before ++ h ∷ []) ++ map coin_hash (made_coins id (i + 1) (drop (i + 1) outputs)) ≡ all

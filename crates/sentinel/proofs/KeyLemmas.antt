@@ -23,13 +23,15 @@ module _ {K X : Type 0} (s t : K → Bool) (same : (k : K) → s k ≡ t k) wher
   lookup_by (e ∷ es) = let here = same e.0 in let rest = lookup_by es in rw (here, rest)
 
 -- what a map has at a key
-pub found_by : (q : Key) (es : List (Key × Bool)) → lookup (λ (k : Key). eq-value.it q k) es ≡ lookup (λ (k : Key). is_key q.tx q.index k.tx k.index) es
+pub found_by : (q : Key) (es : List (Key × Bool))
+    → lookup (λ (k : Key). eq-value.it q k) es ≡ lookup (λ (k : Key). is_key q.tx q.index k.tx k.index) es
 found_by q es = lookup_by (λ k. eq-value.it q k) (λ k. is_key q.tx q.index k.tx k.index) (λ k. key_is q k) es
 
 -- what a map has at a key once this one was put in
 pub put_by : (key q : Key) (good : Bool) (old new : List (Key × Bool))
     → lookup (λ (k : Key). eq-value.it q k) new ≡ cond (eq-value.it key q) (Some good) (lookup (λ (k : Key). eq-value.it q k) old)
-    → lookup (λ (k : Key). is_key q.tx q.index k.tx k.index) new ≡ cond (is_key key.tx key.index q.tx q.index) (Some good) (lookup (λ (k : Key). is_key q.tx q.index k.tx k.index) old)
+    → lookup (λ (k : Key). is_key q.tx q.index k.tx k.index) new
+    ≡ cond (is_key key.tx key.index q.tx q.index) (Some good) (lookup (λ (k : Key). is_key q.tx q.index k.tx k.index) old)
 put_by key q good old new put =
     sym (found_by q new) ∙ put
     ∙ ap (λ (b : Bool). cond b (Some good) (lookup (λ (k : Key). eq-value.it q k) old)) (key_is key q)

@@ -17,7 +17,13 @@ part_of Money n = omega arith
 sum_below : {A : Type 0} (out : A → Output) (xs : List A) → sum_by (λ x. issuable_of (out x)) xs ≤ sum_by (λ x. (out x).value) xs
 sum_below out [] = omega arith
 sum_below out (x ∷ xs) =
-    omega (arith, part_of (kind_of (out x)) (out x).value, sum_below out xs, sum_by-cons (λ x. (out x).value) x xs, sum_by-cons (λ x. issuable_of (out x)) x xs)
+    omega (
+      arith,
+      part_of (kind_of (out x)) (out x).value,
+      sum_below out xs,
+      sum_by-cons (λ x. (out x).value) x xs,
+      sum_by-cons (λ x. issuable_of (out x)) x xs,
+    )
 
 pub claimed_below : (inputs : List Input) → sum_in issuable_of inputs ≤ sum_by (λ x. x.output.value) inputs
 claimed_below inputs = sum_below (λ (x : Input). x.output) inputs

@@ -15,7 +15,8 @@ module _ {X : Type 0} (Q : X → Type 0) (xs : List X) where
   has_at i x inside is holds = (x, slice_get_read xs (length xs) i x refl inside is, holds)
 
   -- one place more without it
-  pub none_below : (i : ℕ) (x : X) → i < length xs → x ≡ get_or xs i x → ¬ (Q x) → ((k : ℕ) → k < i → ¬ (HasAt Q xs k)) → (k : ℕ) → k < i + 1 → ¬ (HasAt Q xs k)
+  pub none_below : (i : ℕ) (x : X) → i < length xs → x ≡ get_or xs i x → ¬ (Q x) → ((k : ℕ) → k < i → ¬ (HasAt Q xs k)) → (k : ℕ) → k < i + 1
+      → ¬ (HasAt Q xs k)
   none_below i x inside is not before k lt (y, at, holds) = elim (cases_lt k i) [
     | inl earlier ↦ before k earlier (y, at, holds)
     | inr later ↦

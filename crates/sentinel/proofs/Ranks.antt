@@ -4,11 +4,13 @@ use Rattle.std.specs.Prelude.{Result, Ok, Err, MatchResult}
 use Rattle.std.proofs.lemmas.Bool.{cases_lt}
 use Rattle.cbdc_types.specs.declared.tx.FullTx.{FullTx}
 use Rattle.base_types.specs.declared.faults.Refusal.{Refusal}
-use Rattle.base_types.specs.declared.faults.Refusal.TheVariants.{NoInputs, RepeatedInput, ZeroInput, ZeroOutput, BurnedInput, PermitCount, PermitRaised}
+use Rattle.base_types.specs.declared.faults.Refusal.TheVariants.{NoInputs, RepeatedInput, ZeroInput, ZeroOutput, BurnedInput, PermitCount}
+use Rattle.base_types.specs.declared.faults.Refusal.TheVariants.{PermitRaised}
 use Rattle.cbdc_types.specs.Kinds.{kind_of}
 use Rattle.cbdc_types.specs.declared.tx.Kind.TheVariants.{Burn}
 use Rattle.cbdc_model.specs.Money.{ArePaired}
-use Rattle.sentinel.specs.FirstRefusal.{Verdicts, Applies, AppliesAt, HasAt, IsFirstRefusal, IsSoundTx, NoneAt, Repeats, rank, permits_in, permits_out, issuable_in, issuable_out}
+use Rattle.sentinel.specs.FirstRefusal.{Verdicts, Applies, AppliesAt, HasAt, IsFirstRefusal, IsSoundTx, NoneAt, Repeats, rank, permits_in}
+use Rattle.sentinel.specs.FirstRefusal.{permits_out, issuable_in, issuable_out}
 
 -- none of the reasons before this rank applies
 abbrev pub NoneBelow : ℕ → FullTx → Verdicts → Type 0
@@ -28,7 +30,8 @@ rank-lt NoInputs = lit< tt
 rank-lt other = lit< tt
 
 -- the last reason decides
-pub last_at : (t : FullTx) (v : Verdicts) (u : Result (Unit {0}) Refusal) → NoneBelow 13 t v → MatchResult u (λ done. NoneAt 13 t v) (λ r. AppliesAt 13 t v r) → MatchResult u (λ done. IsSoundTx t v) (λ r. IsFirstRefusal t v r)
+pub last_at : (t : FullTx) (v : Verdicts) (u : Result (Unit {0}) Refusal) → NoneBelow 13 t v
+    → MatchResult u (λ done. NoneAt 13 t v) (λ r. AppliesAt 13 t v r) → MatchResult u (λ done. IsSoundTx t v) (λ r. IsFirstRefusal t v r)
 last_at t v (Ok done) below at = λ r. below_next t v 13 below at r (rank-lt r)
 last_at t v (Err r) below at = first_refusal_at t v 13 r below at
 

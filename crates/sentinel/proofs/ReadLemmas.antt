@@ -1,5 +1,6 @@
 -- Reading a verdict file line by line.
-use Rattle.std.proofs.Common.{rules, arith, ◌≡◌, ◌≢◌, ℕ, zero, suc, ◌+◌, ◌<◌, ◌^◌, ◌%◌, ◌/◌, Bool, true, false, List, [], ◌∷◌, ◌++◌, length, decimal, Option, Some, None, refl, sym, ◌∙◌, ap, append_assoc, cond, get_or}
+use Rattle.std.proofs.Common.{rules, arith, ◌≡◌, ◌≢◌, ℕ, zero, suc, ◌+◌, ◌<◌, ◌^◌, ◌%◌, ◌/◌, Bool, true, false, List, [], ◌∷◌, ◌++◌, length, decimal}
+use Rattle.std.proofs.Common.{Option, Some, None, refl, sym, ◌∙◌, ap, append_assoc, cond, get_or}
 use Rattle.std.specs.Map.{lookup}
 use Rattle.std.proofs.lemmas.Fmt.{decimal_by_steps}
 use Rattle.hex.specs.Hex.{encode_lower, encode_with, lower_digits}
@@ -31,7 +32,8 @@ hex_open [] = tt
 hex_open (b ∷ bytes) = (no_feed lower_digits digits_open (b / 16), (no_feed lower_digits digits_open (b % 16), hex_open bytes))
 
 decimal_open : (n : ℕ) → n < 2 ^ 64 → HasNoLineEnd (decimal n)
-decimal_open = decimal_by_steps (λ n ds. HasNoLineEnd ds) (λ n small. (omega arith, tt)) (λ n ds large is. open-append ds ((48 + n % 10) ∷ []) is (omega arith, tt))
+decimal_open = decimal_by_steps (λ n ds. HasNoLineEnd ds) (λ n small. (omega arith, tt))
+    (λ n ds large is. open-append ds ((48 + n % 10) ∷ []) is (omega arith, tt))
 
 word_open : (good : Bool) → HasNoLineEnd (32 ∷ word good)
 word_open true = search rules
@@ -87,12 +89,14 @@ module _ (bytes rest line behind : List ℕ) (number : ℕ) (old new : List (Key
   pub read_more : IsRead bytes rest number old → rest ≡ line ++ 10 ∷ behind
       → IsLine (record { tx = key.tx; index = key.index; good = good }) → line ≡ spelled (record { tx = key.tx; index = key.index; good = good })
       → kept_verdict_in old key.tx key.index ≡ None
-      → ((tx : List ℕ) (index : ℕ) → kept_verdict_in new tx index ≡ cond (is_key key.tx key.index tx index) (Some good) (kept_verdict_in old tx index))
+      → ((tx : List ℕ) (index : ℕ) → kept_verdict_in new tx index
+      ≡ cond (is_key key.tx key.index tx index) (Some good) (kept_verdict_in old tx index))
       → IsRead bytes behind (number + 1) new
   read_more so_far split form spells absent updates =
       let l : Line = record { tx = key.tx; index = key.index; good = good } in
       let whole : bytes ≡ (text so_far.lines ++ (spelled l ++ 10 ∷ [])) ++ behind =
-      so_far.begins.whole ∙ ap (λ (r : List ℕ). text so_far.lines ++ r) (split ∙ ap (λ (s : List ℕ). s ++ 10 ∷ behind) spells ∙ sym (append_assoc (spelled l) (10 ∷ []) behind))
+      so_far.begins.whole ∙ ap (λ (r : List ℕ). text so_far.lines ++ r)
+      (split ∙ ap (λ (s : List ℕ). s ++ 10 ∷ behind) spells ∙ sym (append_assoc (spelled l) (10 ∷ []) behind))
       ∙ sym (append_assoc (text so_far.lines) (spelled l ++ 10 ∷ []) behind)
       in
       record {
@@ -127,7 +131,8 @@ module _ (more : Bool) (bytes rest line behind : List ℕ) (number : ℕ) (entri
       let again : IsSome (said so_far.lines l.tx l.index) = rw e (search rules) in
       (so_far.lines, rest, so_far.begins, so_far.count, (l, behind, form, at, again))
 
-pub open_end_told : (bytes rest : List ℕ) (number : ℕ) (entries : List (Key × Bool)) → IsRead bytes rest number entries → HasNoLineEnd rest → rest ≢ []
+pub open_end_told : (bytes rest : List ℕ) (number : ℕ) (entries : List (Key × Bool)) → IsRead bytes rest number entries → HasNoLineEnd rest
+    → rest ≢ []
     → ReadsVerdicts false bytes (Err (fault.Bad (record { line = number; kind = Form })))
 open_end_told bytes rest number entries so_far feedless some = (
   so_far.lines,

@@ -27,14 +27,19 @@ file_verdict file tx index = verdict_by (kept_verdict file tx index)
 
 -- what is wrong with the line behind these: it is no line, or speaks of the same input as one of them
 abbrev pub IsLineWrong : Bool → List Line → List ℕ → InputKind → Type 0
-IsLineWrong more lines rest Form = (rest ≢ []) × (more ≡ true → ¬ HasNoLineEnd rest) × ((l : Line) (behind : List ℕ) → IsLine l → rest ≢ spelled l ++ 10 ∷ behind)
-IsLineWrong more lines rest Repeated = (l : Line) × (behind : List ℕ) × IsLine l × (rest ≡ spelled l ++ 10 ∷ behind) × IsSome (said lines l.tx l.index)
+IsLineWrong more lines rest Form = (rest ≢ []) × (more ≡ true → ¬ HasNoLineEnd rest)
+    × ((l : Line) (behind : List ℕ) → IsLine l → rest ≢ spelled l ++ 10 ∷ behind)
+IsLineWrong more lines rest Repeated = (l : Line) × (behind : List ℕ) × IsLine l × (rest ≡ spelled l ++ 10 ∷ behind)
+    × IsSome (said lines l.tx l.index)
 IsLineWrong more lines rest _ = ⊥
 
 -- What is read of the first bytes of a file, which goes on behind them where `more` holds: its lines, or the
 -- first wrong line, or that it is too large.
 abbrev pub ReadsVerdicts : Bool → List ℕ → Result VerdictFile VerdictFault → Type 0
-ReadsVerdicts more bytes (Ok file) = (more ≡ false) × ((lines : List Line) × BeginsWithLines bytes lines [] × ((tx : List ℕ) (index : ℕ) → kept_verdict file tx index ≡ said lines tx index))
-ReadsVerdicts more bytes (Err (fault.Bad bad)) = (lines : List Line) × (rest : List ℕ) × BeginsWithLines bytes lines rest × (bad.line ≡ length lines + 1) × IsLineWrong more lines rest bad.kind
-ReadsVerdicts more bytes (Err fault.Large) = (more ≡ true) × ((lines : List Line) × (rest : List ℕ) × BeginsWithLines bytes lines rest × HasNoLineEnd rest)
+ReadsVerdicts more bytes (Ok file) = (more ≡ false)
+    × ((lines : List Line) × BeginsWithLines bytes lines [] × ((tx : List ℕ) (index : ℕ) → kept_verdict file tx index ≡ said lines tx index))
+ReadsVerdicts more bytes (Err (fault.Bad bad)) = (lines : List Line) × (rest : List ℕ) × BeginsWithLines bytes lines rest
+    × (bad.line ≡ length lines + 1) × IsLineWrong more lines rest bad.kind
+ReadsVerdicts more bytes (Err fault.Large) = (more ≡ true)
+    × ((lines : List Line) × (rest : List ℕ) × BeginsWithLines bytes lines rest × HasNoLineEnd rest)
 ReadsVerdicts more bytes (Err fault.Memory) = Unit {0}

@@ -6,7 +6,9 @@ use Rattle.cbdc_model.specs.Money.{permits_of, issuable_of, sum_in, sum_out, Are
 use Rattle.cbdc_types.specs.declared.tx.Input.{Input}
 use Rattle.cbdc_types.specs.declared.tx.FullTx.{FullTx}
 use Rattle.base_types.specs.declared.faults.Refusal.{Refusal}
-use Rattle.base_types.specs.declared.faults.Refusal.TheVariants.{NoInputs, NoOutputs, WitnessCount, RepeatedInput, ZeroInput, ZeroOutput, InputOverflow, OutputOverflow, Unbalanced, BurnedInput, PermitCount, PermitRaised, BadWitness, Unverified}
+use Rattle.base_types.specs.declared.faults.Refusal.TheVariants.{NoInputs, NoOutputs, WitnessCount, RepeatedInput, ZeroInput, ZeroOutput}
+use Rattle.base_types.specs.declared.faults.Refusal.TheVariants.{InputOverflow, OutputOverflow, Unbalanced, BurnedInput, PermitCount, PermitRaised}
+use Rattle.base_types.specs.declared.faults.Refusal.TheVariants.{BadWitness, Unverified}
 use Rattle.sentinel.specs.declared.verifier.Verdict.{Verdict}
 use Rattle.sentinel.specs.declared.verifier.Verdict.TheVariants.{Bad, Absent}
 

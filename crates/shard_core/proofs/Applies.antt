@@ -1,5 +1,6 @@
 -- What records make of slots, memory and hashes.
-use Rattle.std.proofs.Common.{◌≡◌, ◌≢◌, ℕ, zero, suc, ◌+◌, ◌<◌, ◌≤◌, Bool, true, false, not, ◌&&◌, ◌||◌, List, [], ◌∷◌, ◌++◌, length, set, replicate, vec_capacity, Option, Some, None, option_map, is_some, slice_get, if◌then◌else◌, arith, refl, ap, sym, ◌∙◌, subst}
+use Rattle.std.proofs.Common.{◌≡◌, ◌≢◌, ℕ, zero, suc, ◌+◌, ◌<◌, ◌≤◌, Bool, true, false, not, ◌&&◌, ◌||◌, List, [], ◌∷◌, ◌++◌, length, set, replicate}
+use Rattle.std.proofs.Common.{vec_capacity, Option, Some, None, option_map, is_some, slice_get, if◌then◌else◌, arith, refl, ap, sym, ◌∙◌, subst}
 use Rattle.std.specs.Global.{Vec}
 use Rattle.std.specs.Bool.{OnTrue}
 use Rattle.cbdc_model.specs.Records.{Digest, Batch, Header, Record, Entry, Reply, Answered, Genesis, Lock, Finish, Forget, lock_of, is_held}
@@ -54,7 +55,8 @@ set_at xs i a s j e h = get_set_same xs i a s (subst (λ (k : ℕ). slice_get (s
 pub set_off : {X : Type 0} (xs : List X) (i : ℕ) (a s : X) (j : ℕ) → j ≢ i → slice_get (set xs i a) j ≡ Some s → slice_get xs j ≡ Some s
 set_off xs i a s j n h = sym (get_set_other xs i j a (λ e. n (sym e))) ∙ h
 
-pub owed_set : (slots : List LaneSlot) (i : ℕ) (s new : LaneSlot) → slice_get slots i ≡ Some s → owed_in (set slots i new) + owed_by s ≡ owed_in slots + owed_by new
+pub owed_set : (slots : List LaneSlot) (i : ℕ) (s new : LaneSlot) → slice_get slots i ≡ Some s
+    → owed_in (set slots i new) + owed_by s ≡ owed_in slots + owed_by new
 owed_set [] i s new h = cc
 owed_set (t ∷ slots) zero s new h = let same : owed_by t ≡ owed_by s = ap owed_by (some_is t s h) in omega (arith, same)
 owed_set (t ∷ slots) (suc i) s new h = let rest = owed_set slots i s new h in omega (arith, rest)
@@ -64,14 +66,16 @@ owed_at [] i s h = cc
 owed_at (t ∷ slots) zero s h = let same : owed_by t ≡ owed_by s = ap owed_by (some_is t s h) in omega (arith, same)
 owed_at (t ∷ slots) (suc i) s h = let rest = owed_at slots i s h in omega (arith, rest)
 
-pub memory_slot : (slots : List LaneSlot) (memory : List (Vec Bool)) (i : ℕ) (new : LaneSlot) → HaveDecisionMemory slots memory → locked_entries new ≡ 0 → HaveDecisionMemory (set slots i new) memory
+pub memory_slot : (slots : List LaneSlot) (memory : List (Vec Bool)) (i : ℕ) (new : LaneSlot) → HaveDecisionMemory slots memory
+    → locked_entries new ≡ 0 → HaveDecisionMemory (set slots i new) memory
 memory_slot slots memory i new old none j s m h k =
     elim (same_nat j i) [
       | Yes e ↦ let same : locked_entries s ≡ 0 = ap locked_entries (set_at slots i new s j e h) ∙ none in omega (arith, same)
       | No n ↦ old j s m (set_off slots i new s j n h) k
     ]
 
-pub memory_both : (slots : List LaneSlot) (memory : List (Vec Bool)) (i : ℕ) (new : LaneSlot) (v : Vec Bool) → HaveDecisionMemory slots memory → locked_entries new ≤ vec_capacity v
+pub memory_both : (slots : List LaneSlot) (memory : List (Vec Bool)) (i : ℕ) (new : LaneSlot) (v : Vec Bool) → HaveDecisionMemory slots memory
+    → locked_entries new ≤ vec_capacity v
     → HaveDecisionMemory (set slots i new) (set memory i v)
 memory_both slots memory i new v old room j s m h k =
     elim (same_nat j i) [
@@ -82,7 +86,8 @@ memory_both slots memory i new v old room j s m h k =
       | No n ↦ old j s m (set_off slots i new s j n h) (set_off memory i v m j n k)
     ]
 
-pub paired_set : (slots : List LaneSlot) (i : ℕ) (new : LaneSlot) → ArePaired slots → locked_replies new ≡ locked_entries new → ArePaired (set slots i new)
+pub paired_set : (slots : List LaneSlot) (i : ℕ) (new : LaneSlot) → ArePaired slots → locked_replies new ≡ locked_entries new
+    → ArePaired (set slots i new)
 paired_set slots i new old pair j s h =
     elim (same_nat j i) [
       | Yes e ↦ let same = set_at slots i new s j e h in rw same pair
@@ -97,12 +102,14 @@ locked_lock : (t : Bool) (b : Batch) (s : Status) → (if t then Some b else loc
 locked_lock true b s = refl
 locked_lock false b s = refl
 
-pub agrees_lock : (J : List Record) (stamp : ℕ) (b : Batch) (es : List Answered) (hashes new : List Digest) (held kept : List (Kept (Batch × ℕ))) → HashesAgree hashes held J
+pub agrees_lock : (J : List Record) (stamp : ℕ) (b : Batch) (es : List Answered) (hashes new : List Digest) (held kept : List (Kept (Batch × ℕ)))
+    → HashesAgree hashes held J
     → ((y : Digest) → has new y ≡ (not (has (held_inputs es) y) && has hashes y))
     → ((y : Digest) → holder_in kept y ≡ (if has (held_inputs es) y then Some b else holder_in held y)) → HashesAgree new kept (Lock stamp b es ∷ J)
 agrees_lock J stamp b es hashes new held kept a u l = record {
   unspent = λ x. u x ∙ ap (λ (c : Bool). not (has (held_inputs es) x) && c) (a.unspent x) ∙ unspent_lock (has (held_inputs es) x) b (status J x);
-  locked = λ x. l x ∙ ap (λ (o : Option Batch). if has (held_inputs es) x then Some b else o) (a.locked x) ∙ locked_lock (has (held_inputs es) x) b (status J x);
+  locked = λ x. l x ∙ ap (λ (o : Option Batch). if has (held_inputs es) x then Some b else o) (a.locked x)
+      ∙ locked_lock (has (held_inputs es) x) b (status J x);
 }
 
 pub made_is : (es : List Answered) (ds : List Bool) → made_outputs es ds ≡ outputs_where (entries es) ds
@@ -138,20 +145,27 @@ cut_holder : {X Y : Type 0} (t : Bool) (f : X → Y) (o : Option X) → option_m
 cut_holder true f o = refl
 cut_holder false f o = refl
 
-holder_step : (new old : List (Kept (Batch × ℕ))) (t : Bool) (x : Digest) → lookup new x ≡ (if t then None else lookup old x) → holder_in new x ≡ (if t then None else holder_in old x)
-holder_step new old t x h = ap (λ (o : Option (Batch × ℕ)). option_map (λ (p : Batch × ℕ). p.0) o) h ∙ cut_holder t (λ (p : Batch × ℕ). p.0) (lookup old x)
+holder_step : (new old : List (Kept (Batch × ℕ))) (t : Bool) (x : Digest) → lookup new x ≡ (if t then None else lookup old x)
+    → holder_in new x ≡ (if t then None else holder_in old x)
+holder_step new old t x h = ap (λ (o : Option (Batch × ℕ)). option_map (λ (p : Batch × ℕ). p.0) o) h
+    ∙ cut_holder t (λ (p : Batch × ℕ). p.0) (lookup old x)
 
-pub agrees_finish : (J : List Record) (stamp : ℕ) (b : Batch) (ds : List Bool) (part : List Entry) (rs : List Reply) (hashes h1 h2 h3 : List Digest) (held k1 k2 k3 : List (Kept (Batch × ℕ)))
+pub agrees_finish : (J : List Record) (stamp : ℕ) (b : Batch) (ds : List Bool) (part : List Entry) (rs : List Reply) (hashes h1 h2 h3 : List Digest)
+    (held k1 k2 k3 : List (Kept (Batch × ℕ)))
     → entries (lock_of J b) ≡ part → replies (lock_of J b) ≡ rs → HashesAgree hashes held J
-    → ((y : Digest) → has h1 y ≡ (not (has (inputs_where part ds) y) && has hashes y)) → ((y : Digest) → lookup k1 y ≡ (if has (inputs_where part ds) y then None else lookup held y))
-    → ((y : Digest) → has h2 y ≡ (has (returned_where part rs ds) y || has h1 y)) → ((y : Digest) → lookup k2 y ≡ (if has (returned_where part rs ds) y then None else lookup k1 y))
-    → ((y : Digest) → has h3 y ≡ (has (outputs_where part ds) y || has h2 y)) → ((y : Digest) → lookup k3 y ≡ (if has (outputs_where part ds) y then None else lookup k2 y))
+    → ((y : Digest) → has h1 y ≡ (not (has (inputs_where part ds) y) && has hashes y))
+    → ((y : Digest) → lookup k1 y ≡ (if has (inputs_where part ds) y then None else lookup held y))
+    → ((y : Digest) → has h2 y ≡ (has (returned_where part rs ds) y || has h1 y))
+    → ((y : Digest) → lookup k2 y ≡ (if has (returned_where part rs ds) y then None else lookup k1 y))
+    → ((y : Digest) → has h3 y ≡ (has (outputs_where part ds) y || has h2 y))
+    → ((y : Digest) → lookup k3 y ≡ (if has (outputs_where part ds) y then None else lookup k2 y))
     → HashesAgree h3 k3 (Finish stamp b ds ∷ J)
 agrees_finish J stamp b ds part rs hashes h1 h2 h3 held k1 k2 k3 p r a u1 l1 u2 l2 u3 l3 =
     let made : made_outputs (lock_of J b) ds ≡ outputs_where part ds = made_is (lock_of J b) ds ∙ ap (λ (es : List Entry). outputs_where es ds) p in
     let gone : taken_inputs (lock_of J b) ds ≡ inputs_where part ds = taken_is (lock_of J b) ds ∙ ap (λ (es : List Entry). inputs_where es ds) p in
     let back : returned_inputs (lock_of J b) ds ≡ returned_where part rs ds =
-    returned_is (lock_of J b) ds ∙ ap (λ (es : List Entry). returned_where es (replies (lock_of J b)) ds) p ∙ ap (λ (qs : List Reply). returned_where part qs ds) r in
+    returned_is (lock_of J b) ds ∙ ap (λ (es : List Entry). returned_where es (replies (lock_of J b)) ds) p
+    ∙ ap (λ (qs : List Reply). returned_where part qs ds) r in
     record {
       unspent = λ x. rw (made, gone, back)
           (u3 x ∙ ap (λ (c : Bool). has (outputs_where part ds) x || c) (u2 x ∙ ap (λ (c : Bool). has (returned_where part rs ds) x || c)
@@ -159,13 +173,16 @@ agrees_finish J stamp b ds part rs hashes h1 h2 h3 held k1 k2 k3 p r a u1 l1 u2 
           ∙ unspent_finish (has (outputs_where part ds) x) (has (returned_where part rs ds) x) (has (inputs_where part ds) x) (status J x));
       locked = λ x. rw (made, gone, back)
           (holder_step k3 k2 (has (outputs_where part ds) x) x (l3 x)
-          ∙ ap (λ (o : Option Batch). if has (outputs_where part ds) x then None else o) (holder_step k2 k1 (has (returned_where part rs ds) x) x (l2 x)
-          ∙ ap (λ (o : Option Batch). if has (returned_where part rs ds) x then None else o) (holder_step k1 held (has (inputs_where part ds) x) x (l1 x)
+          ∙ ap (λ (o : Option Batch). if has (outputs_where part ds) x then None else o)
+          (holder_step k2 k1 (has (returned_where part rs ds) x) x (l2 x)
+          ∙ ap (λ (o : Option Batch). if has (returned_where part rs ds) x then None else o)
+          (holder_step k1 held (has (inputs_where part ds) x) x (l1 x)
           ∙ ap (λ (o : Option Batch). if has (inputs_where part ds) x then None else o) (a.locked x)))
           ∙ locked_finish (has (outputs_where part ds) x) (has (returned_where part rs ds) x) (has (inputs_where part ds) x) (status J x));
     }
 
-pub agrees_forget : (J : List Record) (stamp : ℕ) (b : Batch) (hashes : List Digest) (held : List (Kept (Batch × ℕ))) → HashesAgree hashes held J → HashesAgree hashes held (Forget stamp b ∷ J)
+pub agrees_forget : (J : List Record) (stamp : ℕ) (b : Batch) (hashes : List Digest) (held : List (Kept (Batch × ℕ))) → HashesAgree hashes held J
+    → HashesAgree hashes held (Forget stamp b ∷ J)
 agrees_forget J stamp b hashes held a = record { unspent = a.unspent; locked = a.locked }
 
 genesis_unspent : (t : Bool) → t ≡ says_unspent (if t then Unspent else Absent)
@@ -240,7 +257,8 @@ taken_replies n m part qart rs qs t u h = cc
 pub taken_number : (n m : ℕ) (part qart : List Entry) (rs qs : List Reply) (t u : ℕ) → Taken n part rs t ≡ Taken m qart qs u → n ≡ m
 taken_number n m part qart rs qs t u h = cc
 
-pub finish_slot : (core : ShardCore) (b : Batch) (ds : List Bool) (s : LaneSlot) → slice_get core.slots b.lane ≡ Some s → ArePaired core.slots → IsSlotLocked s b.number ds → IsFinishable core b ds
+pub finish_slot : (core : ShardCore) (b : Batch) (ds : List Bool) (s : LaneSlot) → slice_get core.slots b.lane ≡ Some s → ArePaired core.slots
+    → IsSlotLocked s b.number ds → IsFinishable core b ds
 finish_slot core b ds (Free n t) h pairs l = absurd l
 finish_slot core b ds (Taken n part rs t) h pairs l =
     record {
@@ -253,7 +271,8 @@ finish_slot core b ds (Taken n part rs t) h pairs l =
     }
 finish_slot core b ds (Finished n part rs es t u) h pairs l = absurd l
 
-pub finish_ready : (core : ShardCore) (b : Batch) (ds : List Bool) (s : LaneSlot) (p : StampPlan) → slice_get core.slots b.lane ≡ Some s → ArePaired core.slots → FitsFinish p s b.number ds
+pub finish_ready : (core : ShardCore) (b : Batch) (ds : List Bool) (s : LaneSlot) (p : StampPlan) → slice_get core.slots b.lane ≡ Some s
+    → ArePaired core.slots → FitsFinish p s b.number ds
     → IsFinishPlan p core b ds
 finish_ready core b ds s (StampKept stamp) h pairs n = tt
 finish_ready core b ds s (StampNext stamp) h pairs n = finish_slot core b ds s h pairs n

@@ -1,5 +1,6 @@
 -- What is claimed by the Held entries of a part, and the replies so far.
-use Rattle.std.proofs.Common.{◌≡◌, ℕ, zero, suc, ◌+◌, ◌<◌, ◌≤◌, Bool, true, false, ◌||◌, List, [], ◌∷◌, ◌++◌, length, take, drop, get_or, if◌then◌else◌, arith, refl, ap, sym, ◌∙◌, append_assoc, drop-cons}
+use Rattle.std.proofs.Common.{◌≡◌, ℕ, zero, suc, ◌+◌, ◌<◌, ◌≤◌, Bool, true, false, ◌||◌, List, [], ◌∷◌, ◌++◌, length, take, drop, get_or}
+use Rattle.std.proofs.Common.{if◌then◌else◌, arith, refl, ap, sym, ◌∙◌, append_assoc, drop-cons}
 use Rattle.cbdc_model.specs.Records.{Digest, same_digest, Batch, Record, Entry, Reply, is_held}
 use Rattle.cbdc_model.specs.Status.{has}
 use Rattle.cbdc_model.specs.Replies.{reply_to, answered, replies}
@@ -22,24 +23,28 @@ pub has_append : (xs ys : List Digest) (y : Digest) → has (xs ++ ys) y ≡ (ha
 has_append [] ys y = refl
 has_append (x ∷ xs) ys y = let rest = has_append xs ys y in rw rest (or_assoc (same_digest x y) (has xs y) (has ys y))
 
-pub has_take : (xs : List Digest) (i : ℕ) (x y : Digest) → i < length xs → x ≡ get_or xs i x → has (take (suc i) xs) y ≡ (has (take i xs) y || same_digest x y)
+pub has_take : (xs : List Digest) (i : ℕ) (x y : Digest) → i < length xs → x ≡ get_or xs i x
+    → has (take (suc i) xs) y ≡ (has (take i xs) y || same_digest x y)
 has_take [] i x y l e = absurd (omega arith)
 has_take (z ∷ xs) zero x y l e = let same : x ≡ z = e in rw same (or_false (same_digest z y))
-has_take (z ∷ xs) (suc i) x y l e = let rest = has_take xs i x y (omega arith) e in rw rest (or_assoc (same_digest z y) (has (take i xs) y) (same_digest x y))
+has_take (z ∷ xs) (suc i) x y l e = let rest = has_take xs i x y (omega arith) e in
+    rw rest (or_assoc (same_digest z y) (has (take i xs) y) (same_digest x y))
 
 pub spare_less : (b : Bool) (s t : ℕ) → s + (if b then 0 else 1) ≡ t → t ≤ s + 1
 spare_less true s t h = omega arith
 spare_less false s t h = omega arith
 
 -- one reply more
-pub one_reply : (J : List Record) (b : Batch) (before : List Digest) (rs all : List Reply) (e : Entry) (es : List Entry) (i : ℕ) (r : Reply) → i < length es → e ≡ get_or es i e
+pub one_reply : (J : List Record) (b : Batch) (before : List Digest) (rs all : List Reply) (e : Entry) (es : List Entry) (i : ℕ) (r : Reply)
+    → i < length es → e ≡ get_or es i e
     → r ≡ reply_to J b before e.inputs → rs ++ replies (answered J b before (drop i es)) ≡ all
     → (rs ++ r ∷ []) ++ replies (answered J b (if is_held r then e.inputs ++ before else before) (drop (suc i) es)) ≡ all
 one_reply J b before rs all e es i r l is reply old =
     let cut : drop i es ≡ e ∷ drop (suc i) es = drop-cons es i e l ∙ ap (λ (f : Entry). f ∷ drop (suc i) es) (sym is) in
     append_assoc rs (r ∷ []) _ ∙ rw reply (ap (λ (fs : List Entry). rs ++ replies (answered J b before fs)) (sym cut) ∙ old)
 
-pub claims_more : (xs before old new : List Digest) → ((y : Digest) → has old y ≡ has before y) → ((y : Digest) → has new y ≡ (has xs y || has old y)) → (y : Digest)
+pub claims_more : (xs before old new : List Digest) → ((y : Digest) → has old y ≡ has before y)
+    → ((y : Digest) → has new y ≡ (has xs y || has old y)) → (y : Digest)
     → has new y ≡ has (xs ++ before) y
 claims_more xs before old new claims more y = more y ∙ ap (λ (t : Bool). has xs y || t) (claims y) ∙ sym (has_append xs before y)
 
@@ -54,7 +59,8 @@ has_here (z ∷ xs) (suc i) x y l e same = let rest = has_here xs i x y (omega a
     or_true true = refl
     or_true false = refl
 
-pub not_yet : (xs : List Digest) (i : ℕ) (x y : Digest) → i < length xs → x ≡ get_or xs i x → has (take i xs) y ≡ false → same_digest x y ≡ false → has (take (suc i) xs) y ≡ false
+pub not_yet : (xs : List Digest) (i : ℕ) (x y : Digest) → i < length xs → x ≡ get_or xs i x → has (take i xs) y ≡ false → same_digest x y ≡ false
+    → has (take (suc i) xs) y ≡ false
 not_yet xs i x y l e before here = has_take xs i x y l e ∙ rw (before, here) refl
 
 or_first : (a b : Bool) → a ≡ true → true ≡ (a || b)
@@ -76,7 +82,9 @@ few_more few more many y =
     has_append (few ++ more) many y ∙ ap (λ (t : Bool). t || has many y) (has_append few more y) ∙ sym (or_swap (has more y) (has few y) (has many y))
     ∙ ap (λ (t : Bool). has more y || t) (sym (has_append few many y))
 
-pub many_more : (few more many new : List Digest) (y : Digest) → has new y ≡ (has more y || has many y) → has (few ++ new) y ≡ (has more y || has (few ++ many) y)
+pub many_more : (few more many new : List Digest) (y : Digest) → has new y ≡ (has more y || has many y)
+    → has (few ++ new) y ≡ (has more y || has (few ++ many) y)
 many_more few more many new y e =
-    has_append few new y ∙ ap (λ (t : Bool). has few y || t) e ∙ or_swap (has few y) (has more y) (has many y) ∙ sym (or_assoc (has more y) (has few y) (has many y))
+    has_append few new y ∙ ap (λ (t : Bool). has few y || t) e ∙ or_swap (has few y) (has more y) (has many y)
+    ∙ sym (or_assoc (has more y) (has few y) (has many y))
     ∙ ap (λ (t : Bool). has more y || t) (sym (has_append few many y))

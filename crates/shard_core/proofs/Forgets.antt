@@ -18,13 +18,16 @@ forget_ahead : (J : List Record) (b : Batch) (cause n : ℕ) (p : Phase) → slo
     → next_forget J b cause ≡ Refuse (NotLocked n)
 forget_ahead J b cause n p e h = grind (arith, common_steps)
 
-pub forget_elsewhere : (J : List Record) (b : Batch) (cause : ℕ) (s : LaneSlot) (n : ℕ) (why : Refused) → SlotStands s J b.lane → n ≡ slot_number s → b.number ≢ n
+pub forget_elsewhere : (J : List Record) (b : Batch) (cause : ℕ) (s : LaneSlot) (n : ℕ) (why : Refused) → SlotStands s J b.lane → n ≡ slot_number s
+    → b.number ≢ n
     → (b.number < n → why ≡ Stale n) → (n < b.number → why ≡ NotLocked n) → Refuse why ≡ next_forget J b cause
 forget_elsewhere J b cause s n why h e ne stale ahead =
     let at = stands_at s n J b.lane e h in
-    other_refused (next_forget J b cause) n b.number why ne stale ahead (λ lt. forget_stale J b cause n at.0 at.1 lt) (λ lt. forget_ahead J b cause n at.0 at.1 lt)
+    other_refused (next_forget J b cause) n b.number why ne stale ahead (λ lt. forget_stale J b cause n at.0 at.1 lt)
+    (λ lt. forget_ahead J b cause n at.0 at.1 lt)
 
-pub forget_kept : (J : List Record) (b : Batch) (cause n t : ℕ) → slot J b.lane ≡ record { number = n; phase = Idle } → slot_stamp J b.lane ≡ t → b.number ≡ n
+pub forget_kept : (J : List Record) (b : Batch) (cause n t : ℕ) → slot J b.lane ≡ record { number = n; phase = Idle } → slot_stamp J b.lane ≡ t
+    → b.number ≡ n
     → next_forget J b cause ≡ Kept t
 forget_kept J b cause n t e s h = grind (arith, common_steps)
 
@@ -32,11 +35,13 @@ pub forget_open : (J : List Record) (b : Batch) (cause n : ℕ) → slot J b.lan
     → next_forget J b cause ≡ Refuse (NotFinished n)
 forget_open J b cause n e h = grind (arith, common_steps)
 
-pub forget_early : (J : List Record) (b : Batch) (cause n t : ℕ) → slot J b.lane ≡ record { number = n; phase = InFinish } → slot_stamp J b.lane ≡ t → b.number ≡ n
+pub forget_early : (J : List Record) (b : Batch) (cause n t : ℕ) → slot J b.lane ≡ record { number = n; phase = InFinish } → slot_stamp J b.lane ≡ t
+    → b.number ≡ n
     → cause ≤ t → next_forget J b cause ≡ Refuse (EarlyStamp t)
 forget_early J b cause n t e s h l = grind (arith, common_steps)
 
-pub forget_next : (J : List Record) (b : Batch) (cause n t : ℕ) → slot J b.lane ≡ record { number = n; phase = InFinish } → slot_stamp J b.lane ≡ t → b.number ≡ n
+pub forget_next : (J : List Record) (b : Batch) (cause n t : ℕ) → slot J b.lane ≡ record { number = n; phase = InFinish } → slot_stamp J b.lane ≡ t
+    → b.number ≡ n
     → t < cause → next_forget J b cause ≡ Append (next_stamp J cause)
 forget_next J b cause n t e s h l = grind (arith, common_steps)
 

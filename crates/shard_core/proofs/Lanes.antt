@@ -23,17 +23,20 @@ get_set_other (x ∷ xs) (suc i) (suc j) v h = get_set_other xs i j v (λ e. h (
 abbrev pub LanesStand : List LaneSlot → List Record → Type 0
 LanesStand slots J = (lane : ℕ) (s : LaneSlot) → slice_get slots lane ≡ Some s → SlotStands s J lane
 
-other_forget : (s : LaneSlot) (J : List Record) (stamp : ℕ) (b : Batch) (lane : ℕ) → (b.lane == lane) ≡ false → SlotStands s J lane → SlotStands s (Forget stamp b ∷ J) lane
+other_forget : (s : LaneSlot) (J : List Record) (stamp : ℕ) (b : Batch) (lane : ℕ) → (b.lane == lane) ≡ false → SlotStands s J lane
+    → SlotStands s (Forget stamp b ∷ J) lane
 other_forget (Free n t) J stamp b lane e h = rw e h
 other_forget (Taken n part rs t) J stamp b lane e h = rw e h
 other_forget (Finished n part rs ds t u) J stamp b lane e h = rw e h
 
-other_lock : (s : LaneSlot) (J : List Record) (stamp : ℕ) (b : Batch) (es : List Answered) (lane : ℕ) → (b.lane == lane) ≡ false → SlotStands s J lane → SlotStands s (Lock stamp b es ∷ J) lane
+other_lock : (s : LaneSlot) (J : List Record) (stamp : ℕ) (b : Batch) (es : List Answered) (lane : ℕ) → (b.lane == lane) ≡ false
+    → SlotStands s J lane → SlotStands s (Lock stamp b es ∷ J) lane
 other_lock (Free n t) J stamp b es lane e h = rw e h
 other_lock (Taken n part rs t) J stamp b es lane e h = rw e h
 other_lock (Finished n part rs ds t u) J stamp b es lane e h = rw e h
 
-other_finish : (s : LaneSlot) (J : List Record) (stamp : ℕ) (b : Batch) (kept : List Bool) (lane : ℕ) → (b.lane == lane) ≡ false → SlotStands s J lane → SlotStands s (Finish stamp b kept ∷ J) lane
+other_finish : (s : LaneSlot) (J : List Record) (stamp : ℕ) (b : Batch) (kept : List Bool) (lane : ℕ) → (b.lane == lane) ≡ false
+    → SlotStands s J lane → SlotStands s (Finish stamp b kept ∷ J) lane
 other_finish (Free n t) J stamp b kept lane e h = rw e h
 other_finish (Taken n part rs t) J stamp b kept lane e h = rw e h
 other_finish (Finished n part rs ds t u) J stamp b kept lane e h = rw e h
@@ -61,14 +64,16 @@ forget_stands slots J stamp b old =
     put_stands slots J (Forget stamp b ∷ J) b.lane (Free b.number stamp) old (let e = same_lane b.lane in rw e (refl, refl))
     (λ s lane e h. other_forget s J stamp b lane e h)
 
-pub lock_stands : (slots : List LaneSlot) (J : List Record) (stamp : ℕ) (b : Batch) (es : List Answered) (part : List Entry) (rs : List Reply) → LanesStand slots J
+pub lock_stands : (slots : List LaneSlot) (J : List Record) (stamp : ℕ) (b : Batch) (es : List Answered) (part : List Entry) (rs : List Reply)
+    → LanesStand slots J
     → entries es ≡ part → replies es ≡ rs → LanesStand (set slots b.lane (Taken b.number part rs stamp)) (Lock stamp b es ∷ J)
 lock_stands slots J stamp b es part rs old p r =
     put_stands slots J (Lock stamp b es ∷ J) b.lane (Taken b.number part rs stamp) old
     (let e = same_lane b.lane in let n = same_lane b.number in rw (e, n) (refl, refl, p, r, refl))
     (λ s lane e h. other_lock s J stamp b es lane e h)
 
-pub finish_stands : (slots : List LaneSlot) (J : List Record) (stamp : ℕ) (b : Batch) (ds : List Bool) (part : List Entry) (rs : List Reply) (t : ℕ) → LanesStand slots J
+pub finish_stands : (slots : List LaneSlot) (J : List Record) (stamp : ℕ) (b : Batch) (ds : List Bool) (part : List Entry) (rs : List Reply) (t : ℕ)
+    → LanesStand slots J
     → SlotStands (Taken b.number part rs t) J b.lane → LanesStand (set slots b.lane (Finished b.number part rs ds t stamp)) (Finish stamp b ds ∷ J)
 finish_stands slots J stamp b ds part rs t old s =
     put_stands slots J (Finish stamp b ds ∷ J) b.lane (Finished b.number part rs ds t stamp) old

@@ -1,5 +1,6 @@
 -- What a search for the first place finds.
-use Rattle.std.proofs.Common.{◌≡◌, ◌≢◌, ℕ, zero, suc, ◌<◌, Bool, true, false, List, [], ◌∷◌, length, get_or, Option, Some, None, option_map, min, arith, refl, ap}
+use Rattle.std.proofs.Common.{◌≡◌, ◌≢◌, ℕ, zero, suc, ◌<◌, Bool, true, false, List, [], ◌∷◌, length, get_or, Option, Some, None, option_map, min}
+use Rattle.std.proofs.Common.{arith, refl, ap}
 use Rattle.std.proofs.lemmas.Grind.{common_steps}
 use Rattle.cbdc_model.specs.Records.{Answered, Reply}
 use Rattle.cbdc_model.specs.Replies.{replies}
@@ -19,7 +20,8 @@ misfit_is [] (d ∷ ds) = refl
 misfit_is (a ∷ es) [] = refl
 misfit_is (a ∷ es) (d ∷ ds) = let rest = misfit_is es ds in grind (arith, common_steps, misfit_is es ds)
 
-pub misfit_at : {A B : Type 0} (fits : A → B → Bool) (xs : List A) (ys : List B) (k : ℕ) (x : A) (y : B) → ((i : ℕ) (d : A) (e : B) → i < k → fits (get_or xs i d) (get_or ys i e) ≡ true)
+pub misfit_at : {A B : Type 0} (fits : A → B → Bool) (xs : List A) (ys : List B) (k : ℕ) (x : A) (y : B)
+    → ((i : ℕ) (d : A) (e : B) → i < k → fits (get_or xs i d) (get_or ys i e) ≡ true)
     → k < length xs → k < length ys → fits (get_or xs k x) (get_or ys k y) ≡ false → Some k ≡ first_misfit fits xs ys
 misfit_at fits [] ys k x y all lx ly bad = absurd (omega arith)
 misfit_at fits (u ∷ xs) [] k x y all lx ly bad = absurd (omega arith)
@@ -29,7 +31,8 @@ misfit_at fits (u ∷ xs) (v ∷ ys) (suc k) x y all lx ly bad =
     let rest = misfit_at fits xs ys k x y (λ i d f h. all (suc i) d f (omega arith)) (omega arith) (omega arith) bad in
     rw (e, ← rest)
 
-pub no_misfit : {A B : Type 0} (fits : A → B → Bool) (xs : List A) (ys : List B) → ((i : ℕ) (d : A) (e : B) → i < length xs → fits (get_or xs i d) (get_or ys i e) ≡ true)
+pub no_misfit : {A B : Type 0} (fits : A → B → Bool) (xs : List A) (ys : List B)
+    → ((i : ℕ) (d : A) (e : B) → i < length xs → fits (get_or xs i d) (get_or ys i e) ≡ true)
     → length xs ≡ length ys → None ≡ first_misfit fits xs ys
 no_misfit fits [] [] all same = refl
 no_misfit fits [] (y ∷ ys) all same = absurd (omega arith)
@@ -39,7 +42,8 @@ no_misfit fits (x ∷ xs) (y ∷ ys) all same =
     let rest = no_misfit fits xs ys (λ i d f h. all (suc i) d f (omega arith)) (omega arith) in
     rw (e, ← rest)
 
-pub found_short : {A B : Type 0} (fits : A → B → Bool) (xs : List A) (ys : List B) → ((i : ℕ) (d : A) (e : B) → i < length xs → i < length ys → fits (get_or xs i d) (get_or ys i e) ≡ true)
+pub found_short : {A B : Type 0} (fits : A → B → Bool) (xs : List A) (ys : List B)
+    → ((i : ℕ) (d : A) (e : B) → i < length xs → i < length ys → fits (get_or xs i d) (get_or ys i e) ≡ true)
     → length xs ≢ length ys → Some (min (length xs) (length ys)) ≡ first_misfit fits xs ys
 found_short fits [] [] all differ = absurd (differ refl)
 found_short fits [] (y ∷ ys) all differ = ap Some (omega arith)

@@ -1,5 +1,6 @@
 -- What the slots remember of a transaction.
-use Rattle.std.proofs.Common.{◌≡◌, ℕ, zero, suc, ◌<◌, ◌≤◌, Bool, true, false, ◌||◌, List, [], ◌∷◌, length, get_or, drop, min, Option, Some, None, is_some, if◌then◌else◌, arith, refl, ap, sym, ◌∙◌, subst}
+use Rattle.std.proofs.Common.{◌≡◌, ℕ, zero, suc, ◌<◌, ◌≤◌, Bool, true, false, ◌||◌, List, [], ◌∷◌, length, get_or, drop, min, Option, Some, None}
+use Rattle.std.proofs.Common.{is_some, if◌then◌else◌, arith, refl, ap, sym, ◌∙◌, subst}
 use Rattle.cbdc_model.specs.Records.{Digest, Record, Entry, Reply, Answered, lock_of, record_of, decisions_in, same_digest}
 use Rattle.cbdc_model.specs.Slots.{slot, Phase, Idle, InLock, InFinish}
 use Rattle.cbdc_model.specs.Replies.{entries}
@@ -17,9 +18,11 @@ has_id-entries (a ∷ es) id = ap (λ c. same_digest a.entry.id id || c) (has_id
 fate_of-entries : (es : List Answered) (ds : List Bool) (id : Digest) → fate_of (entries es) ds id ≡ decided_fate es ds id
 fate_of-entries [] ds id = refl
 fate_of-entries (a ∷ es) [] id = refl
-fate_of-entries (a ∷ es) (d ∷ ds) id = ap (λ f. if same_digest a.entry.id id then Some (if d then Committed else Rejected) else f) (fate_of-entries es ds id)
+fate_of-entries (a ∷ es) (d ∷ ds) id = ap (λ f. if same_digest a.entry.id id then Some (if d then Committed else Rejected) else f)
+    (fate_of-entries es ds id)
 
-fate_at : (J : List Record) (lane n : ℕ) (p : Phase) (id : Digest) → slot J lane ≡ record { number = n; phase = p } → lane_fate J id lane ≡ fate_in p J (batch_numbered lane n) id
+fate_at : (J : List Record) (lane n : ℕ) (p : Phase) (id : Digest) → slot J lane ≡ record { number = n; phase = p }
+    → lane_fate J id lane ≡ fate_in p J (batch_numbered lane n) id
 fate_at J lane n p id e = rw e refl
 
 pub free_fate : (J : List Record) (lane n t : ℕ) (id : Digest) → SlotStands (Free n t) J lane → lane_fate J id lane ≡ None
@@ -28,10 +31,12 @@ free_fate J lane n t id s = fate_at J lane n Idle id s.0
 pub taken_fate : (J : List Record) (lane n t : ℕ) (part : List Entry) (rs : List Reply) (id : Digest) → SlotStands (Taken n part rs t) J lane
     → lane_fate J id lane ≡ (if has_id part id then Some Waiting else None)
 taken_fate J lane n t part rs id s =
-    let same : names (lock_of J (batch_numbered lane n)) id ≡ has_id part id = sym (has_id-entries (lock_of J (batch_numbered lane n)) id) ∙ ap (λ es. has_id es id) s.2 in
+    let same : names (lock_of J (batch_numbered lane n)) id ≡ has_id part id =
+    sym (has_id-entries (lock_of J (batch_numbered lane n)) id) ∙ ap (λ es. has_id es id) s.2 in
     fate_at J lane n InLock id s.0 ∙ ap (λ c. if c then Some Waiting else None) same
 
-pub finished_fate : (J : List Record) (lane n t u : ℕ) (part : List Entry) (rs : List Reply) (ds : List Bool) (id : Digest) → SlotStands (Finished n part rs ds t u) J lane
+pub finished_fate : (J : List Record) (lane n t u : ℕ) (part : List Entry) (rs : List Reply) (ds : List Bool) (id : Digest)
+    → SlotStands (Finished n part rs ds t u) J lane
     → lane_fate J id lane ≡ fate_of part ds id
 finished_fate J lane n t u part rs ds id s =
     fate_at J lane n InFinish id s.0
@@ -40,7 +45,8 @@ finished_fate J lane n t u part rs ds id s =
     ∙ ap (λ xs. fate_of part xs id) s.5
 
 -- the least lane that remembers it decides
-fate_first : (J : List Record) (id : Digest) (n k : ℕ) (f : Fate) → k < n → fate_below J id k ≡ None → lane_fate J id k ≡ Some f → fate_below J id n ≡ Some f
+fate_first : (J : List Record) (id : Digest) (n k : ℕ) (f : Fate) → k < n → fate_below J id k ≡ None → lane_fate J id k ≡ Some f
+    → fate_below J id n ≡ Some f
 fate_first J id zero k f lt none some = absurd (omega arith)
 fate_first J id (suc n) k f lt none some =
     elim (same_nat k n) [
@@ -56,7 +62,8 @@ fate_past : (es : List Entry) (id : Digest) → fate_of es [] id ≡ None
 fate_past [] id = refl
 fate_past (e ∷ es) id = refl
 
-pub fate_next : (es : List Entry) (ds : List Bool) (id : Digest) (i : ℕ) (e : Entry) → i < length es → i < length ds → e ≡ get_or es i e → same_digest e.id id ≡ false
+pub fate_next : (es : List Entry) (ds : List Bool) (id : Digest) (i : ℕ) (e : Entry) → i < length es → i < length ds → e ≡ get_or es i e
+    → same_digest e.id id ≡ false
     → fate_of (drop i es) (drop i ds) id ≡ fate_of (drop (suc i) es) (drop (suc i) ds) id
 fate_next [] ds id i e lt few is other = absurd (omega arith)
 fate_next (x ∷ es) [] id i e lt few is other = absurd (omega arith)
@@ -81,7 +88,8 @@ waiting_unless o true h e = cc
 waiting_unless o false h e = sym h
 
 -- what the first lane that remembers it tells
-pub fate_told : (J : List Record) (id : Digest) (n k : ℕ) (r : Option Remembered) → k < n → fate_below J id k ≡ None → told_fate r ≡ lane_fate J id k → is_some r ≡ true
+pub fate_told : (J : List Record) (id : Digest) (n k : ℕ) (r : Option Remembered) → k < n → fate_below J id k ≡ None → told_fate r ≡ lane_fate J id k
+    → is_some r ≡ true
     → told_fate r ≡ fate_below J id n
 fate_told J id n k None lt none here some = cc
 fate_told J id n k (Some x) lt none here some = sym (fate_first J id n k (as_fate x) lt none (sym here))

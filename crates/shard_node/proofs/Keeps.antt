@@ -24,13 +24,15 @@ use Rattle.shard_node.specs.Parts.{HaveDecisions, HasRecords, IsShardOf}
 module _ {D : Type 0} {G : Ghosts D} where
   -- the record was written and taken in
   abbrev pub HasWritten : Node ShardCore D G → Node ShardCore D G → Record → Type 0
-  HasWritten old new r = HasKept old.log new.log r × ((J : List Record) → ShardStands old.core J → ShardStands new.core (r ∷ J)) × (new.core.header ≡ old.core.header)
+  HasWritten old new r = HasKept old.log new.log r × ((J : List Record) → ShardStands old.core J → ShardStands new.core (r ∷ J))
+      × (new.core.header ≡ old.core.header)
 
   -- the disk failed at it
   abbrev pub HasFailed : Node ShardCore D G → Node ShardCore D G → Type 0
   HasFailed old new = HasBroken old.log new.log × (new.core ≡ old.core)
 
-  pub made_room : (p : Parts D G) (core : ShardCore) → IsShardOf p → IsSameState p.node.core core → IsShardOf (record p { node = record p.node { core = core } })
+  pub made_room : (p : Parts D G) (core : ShardCore) → IsShardOf p → IsSameState p.node.core core
+      → IsShardOf (record p { node = record p.node { core = core } })
   made_room p core is same = record {
     node = reserved IsShardHeader p.node p.node.log core is.node (record { disk = refl; gate = refl; broken = refl }) refl refl;
     header = same.header ∙ is.header;
@@ -41,32 +43,41 @@ module _ {D : Type 0} {G : Ghosts D} where
   }
 
   -- behind a record for whose later ones there are room and memory
-  pub wrote : (p : Parts D G) (memory : Vec (Vec Bool)) (node : Node ShardCore D G) (r : Record) → IsShardOf p → length memory.items ≡ length p.decisions.items → IsNode IsShardHeader node → HasWritten p.node node r
-      → used_of (r ∷ journal_of p.node) + kept_room p.node.log.header.shape (r ∷ journal_of p.node) ≤ G.limit (disk_of p.node.log.journal) → HaveDecisions (r ∷ journal_of p.node) memory.items
-      → (count : ℕ) → HasLogRoom p.node.log (count + 1) 1057 → kept_room p.node.log.header.shape (r ∷ journal_of p.node) ≤ 34 * count → IsShardOf (record { node = node; decisions = memory })
+  pub wrote : (p : Parts D G) (memory : Vec (Vec Bool)) (node : Node ShardCore D G) (r : Record) → IsShardOf p
+      → length memory.items ≡ length p.decisions.items → IsNode IsShardHeader node → HasWritten p.node node r
+      → used_of (r ∷ journal_of p.node) + kept_room p.node.log.header.shape (r ∷ journal_of p.node) ≤ G.limit (disk_of p.node.log.journal)
+      → HaveDecisions (r ∷ journal_of p.node) memory.items
+      → (count : ℕ) → HasLogRoom p.node.log (count + 1) 1057 → kept_room p.node.log.header.shape (r ∷ journal_of p.node) ≤ 34 * count
+      → IsShardOf (record { node = node; decisions = memory })
   wrote p memory node r s len is w free decisions count room enough =
       let J = journal_of p.node in
       let now : journal_of node ≡ r ∷ J = pushed p.node.log node.log r w.0 in
-      let records : HasRecords node.log (kept_room p.node.log.header.shape (r ∷ J)) = record { count = count; room = w.0.room count 1057 room; enough = enough } in
-      let free_now : used_of (r ∷ J) + kept_room p.node.log.header.shape (r ∷ J) ≤ G.limit (disk_of node.log.journal) = omega (arith, free, w.0.limit) in
+      let records : HasRecords node.log (kept_room p.node.log.header.shape (r ∷ J)) =
+      record { count = count; room = w.0.room count 1057 room; enough = enough } in
+      let free_now : used_of (r ∷ J) + kept_room p.node.log.header.shape (r ∷ J) ≤ G.limit (disk_of node.log.journal) =
+      omega (arith, free, w.0.limit) in
       record {
         node = is;
         header = w.2 ∙ s.header ∙ sym w.0.header;
         stands = subst (λ (l : List Record). ShardStands node.core l) (sym now) (w.1 J s.stands);
         lanes = len ∙ s.lanes ∙ ap (λ (h : Header). h.shape.coordinators * h.shape.lanes) (sym w.0.header);
-        room = subst (λ (h : Header). used_of (journal_of node) + kept_room h.shape (journal_of node) ≤ G.limit (disk_of node.log.journal)) (sym w.0.header)
+        room = subst (λ (h : Header). used_of (journal_of node) + kept_room h.shape (journal_of node) ≤ G.limit (disk_of node.log.journal))
+            (sym w.0.header)
             (subst (λ (l : List Record). used_of l + kept_room p.node.log.header.shape l ≤ G.limit (disk_of node.log.journal)) (sym now) free_now);
         memory = λ _. record {
           decisions = subst (λ (l : List Record). HaveDecisions l memory.items) (sym now) decisions;
-          records = subst (λ (h : Header). HasRecords node.log (kept_room h.shape (journal_of node))) (sym w.0.header) (subst (λ (l : List Record). HasRecords node.log (kept_room p.node.log.header.shape l)) (sym now) records);
+          records = subst (λ (h : Header). HasRecords node.log (kept_room h.shape (journal_of node))) (sym w.0.header)
+              (subst (λ (l : List Record). HasRecords node.log (kept_room p.node.log.header.shape l)) (sym now) records);
         };
       }
 
-  pub failed : (p : Parts D G) (memory : Vec (Vec Bool)) (node : Node ShardCore D G) → IsShardOf p → length memory.items ≡ length p.decisions.items → IsNode IsShardHeader node → HasFailed p.node node → IsShardOf (record { node = node; decisions = memory })
+  pub failed : (p : Parts D G) (memory : Vec (Vec Bool)) (node : Node ShardCore D G) → IsShardOf p → length memory.items ≡ length p.decisions.items
+      → IsNode IsShardHeader node → HasFailed p.node node → IsShardOf (record { node = node; decisions = memory })
   failed p memory node s len is f =
       let J = journal_of p.node in
       let now : journal_of node ≡ J = ap reverse f.0.records in
-      let kept : kept_room node.log.header.shape (journal_of node) ≡ kept_room p.node.log.header.shape J = ap (λ (l : List Record). kept_room node.log.header.shape l) now ∙ ap (λ (h : Header). kept_room h.shape J) f.0.header in
+      let kept : kept_room node.log.header.shape (journal_of node) ≡ kept_room p.node.log.header.shape J =
+      ap (λ (l : List Record). kept_room node.log.header.shape l) now ∙ ap (λ (h : Header). kept_room h.shape J) f.0.header in
       record {
         node = is;
         header = ap (λ c. c.header) f.1 ∙ s.header ∙ sym f.0.header;

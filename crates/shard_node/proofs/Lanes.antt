@@ -30,14 +30,17 @@ pub record SaysSameOfLane (J N : List Record) (lane : ℕ) : Type 0 where
 
 pub same_room : (J N : List Record) (lane : ℕ) → SaysSameOfLane J N lane → lane_room N lane ≡ lane_room J lane
 same_room J N lane same =
-    let room_at : Slot → ℕ = λ s. room_in s.phase (length (lock_of N (record { lane = lane; number = s.number }))) (length (txs_of N (record { lane = lane; number = s.number }))) in
+    let room_at : Slot → ℕ = λ s. room_in s.phase (length (lock_of N (record { lane = lane; number = s.number })))
+    (length (txs_of N (record { lane = lane; number = s.number }))) in
     let n = (slot J lane).number in
     ap room_at same.slots ∙ ap₂ (λ (m k : ℕ). room_in (slot J lane).phase m k) (ap length (same.locks n)) (ap length (same.txs n))
 
-pub past_lock : (J : List Record) (stamp : ℕ) (b : Batch) (es : List Answered) (lane : ℕ) → b.lane ≢ lane → SaysSameOfLane J (Lock stamp b es ∷ J) lane
+pub past_lock : (J : List Record) (stamp : ℕ) (b : Batch) (es : List Answered) (lane : ℕ) → b.lane ≢ lane
+    → SaysSameOfLane J (Lock stamp b es ∷ J) lane
 past_lock J stamp b es lane apart = let e = other_lane b.lane lane apart in record { slots = rw e refl; locks = λ n. rw e refl; txs = λ n. refl }
 
-pub past_finish : (J : List Record) (stamp : ℕ) (b : Batch) (ds : List Bool) (lane : ℕ) → b.lane ≢ lane → SaysSameOfLane J (Finish stamp b ds ∷ J) lane
+pub past_finish : (J : List Record) (stamp : ℕ) (b : Batch) (ds : List Bool) (lane : ℕ) → b.lane ≢ lane
+    → SaysSameOfLane J (Finish stamp b ds ∷ J) lane
 past_finish J stamp b ds lane apart = let e = other_lane b.lane lane apart in record { slots = rw e refl; locks = λ n. refl; txs = λ n. refl }
 
 pub past_forget : (J : List Record) (stamp : ℕ) (b : Batch) (lane : ℕ) → b.lane ≢ lane → SaysSameOfLane J (Forget stamp b ∷ J) lane
@@ -61,12 +64,14 @@ own_forget J stamp b n = let e = same_lane b.lane in rw e (λ (is : Idle ≡ InL
 pub same_lock : (J N : List Record) (lane n : ℕ) → SaysSameOfLane J N lane → IsLockedWith J lane n → IsLockedWith N lane n
 same_lock J N lane n same old phase =
     let number : (slot N lane).number ≡ (slot J lane).number = ap (λ (s : Slot). s.number) same.slots in
-    let locks : lock_of N (open_batch N lane) ≡ lock_of J (open_batch J lane) = ap (λ (k : ℕ). lock_of N (record { lane = lane; number = k })) number ∙ same.locks (slot J lane).number in
+    let locks : lock_of N (open_batch N lane) ≡ lock_of J (open_batch J lane) =
+    ap (λ (k : ℕ). lock_of N (record { lane = lane; number = k })) number ∙ same.locks (slot J lane).number in
     let le : length (lock_of J (open_batch J lane)) ≤ n = old (sym (ap (λ (s : Slot). s.phase) same.slots) ∙ phase) in
     omega (arith, ap length locks, le)
 
 -- the room of a lane in a phase
-pub room_locked : (J : List Record) (b : Batch) → (slot J b.lane).phase ≡ InLock → (slot J b.lane).number ≡ b.number → lane_room J b.lane ≡ 76 + length (lock_of J b)
+pub room_locked : (J : List Record) (b : Batch) → (slot J b.lane).phase ≡ InLock → (slot J b.lane).number ≡ b.number
+    → lane_room J b.lane ≡ 76 + length (lock_of J b)
 room_locked J b phase number = rw (phase, number) refl
 
 pub room_finished : (J : List Record) (lane : ℕ) → (slot J lane).phase ≡ InFinish → lane_room J lane ≡ 34

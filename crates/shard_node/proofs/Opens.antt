@@ -1,5 +1,6 @@
 -- A shard's disk that was opened.
-use Rattle.std.proofs.Common.{◌≡◌, ℕ, zero, suc, ◌+◌, ◌*◌, ◌/◌, ◌≤◌, min, Bool, List, [], ◌∷◌, length, reverse, vec_capacity, All, Some, sym, ◌∙◌, ap, subst, arith}
+use Rattle.std.proofs.Common.{◌≡◌, ℕ, zero, suc, ◌+◌, ◌*◌, ◌/◌, ◌≤◌, min, Bool, List, [], ◌∷◌, length, reverse, vec_capacity, All, Some, sym, ◌∙◌, ap}
+use Rattle.std.proofs.Common.{subst, arith}
 use Rattle.std.specs.Global.{Vec}
 use Rattle.std.specs.Prelude.{slice_get}
 use Rattle.std.proofs.lemmas.List.Elements.{All-head, All-tail}
@@ -27,8 +28,10 @@ all_at P (y ∷ xs) (suc i) x is all = all_at P xs i x is (All-tail P y xs all)
 module _ {D : Type 0} {G : Ghosts D} where
   -- with memory for its unfinished batches
   pub opened_shard : (n : Node ShardCore D G) (log : RecordLog D G) (memory : Vec (Vec Bool)) (kept : ℕ) → IsShardOpened n
-      → ((K : List Record) → ShardStands n.core K → kept ≡ min (kept_room n.core.header.shape K) 18446744073709551615) → IsUntouched n.log log → log.records.items ≡ n.log.records.items → log.header ≡ n.log.header
-      → length memory.items ≡ n.log.header.shape.coordinators * n.log.header.shape.lanes → All (λ m. n.log.header.shape.batch ≤ vec_capacity m) memory.items → HasLogRoom log (kept / 34 + 1) 1057
+      → ((K : List Record) → ShardStands n.core K → kept ≡ min (kept_room n.core.header.shape K) 18446744073709551615) → IsUntouched n.log log
+      → log.records.items ≡ n.log.records.items → log.header ≡ n.log.header
+      → length memory.items ≡ n.log.header.shape.coordinators * n.log.header.shape.lanes
+      → All (λ m. n.log.header.shape.batch ≤ vec_capacity m) memory.items → HasLogRoom log (kept / 34 + 1) 1057
       → IsShardOf {D = D} {G = G} (record { node = record n { log = log }; decisions = memory })
   opened_shard n log memory kept is counted untouched records header lanes room has =
       let J : List Record = journal_of n in
@@ -47,7 +50,11 @@ module _ {D : Type 0} {G : Ghosts D} where
         room = omega (arith, ap used_of same, kept_now, is.room, ap G.limit untouched.disk);
         memory = λ _. record {
           decisions = subst (λ (l : List Record). HaveDecisions l memory.items) (sym same)
-              (λ lane m get phase. omega (arith, all_at (λ (v : Vec Bool). n.log.header.shape.batch ≤ vec_capacity v) memory.items lane m get room, lock_few n.log.header J (open_batch J lane) all));
+              (λ lane m get phase. omega (
+                arith,
+                all_at (λ (v : Vec Bool). n.log.header.shape.batch ≤ vec_capacity v) memory.items lane m get room,
+                lock_few n.log.header J (open_batch J lane) all,
+              ));
           records = record { count = kept / 34 + 1; room = has; enough = omega (arith, kept_now, kept_is) };
         };
       }

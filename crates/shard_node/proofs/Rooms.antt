@@ -12,7 +12,8 @@ kept_same J N lane (suc n) others le =
     omega arith
 
 -- only one lane's room changes
-pub kept_moves : (J N : List Record) (lane n : ℕ) → ((l : ℕ) → lane ≢ l → lane_room N l ≡ lane_room J l) → lane < n → kept_below N n + lane_room J lane ≡ kept_below J n + lane_room N lane
+pub kept_moves : (J N : List Record) (lane n : ℕ) → ((l : ℕ) → lane ≢ l → lane_room N l ≡ lane_room J l) → lane < n
+    → kept_below N n + lane_room J lane ≡ kept_below J n + lane_room N lane
 kept_moves J N lane zero others lt = absurd (omega arith)
 kept_moves J N lane (suc n) others lt = elim (same_nat lane n) [
   | Yes e ↦

@@ -22,7 +22,8 @@ use Rattle.record_grammar.specs.Kinds.{IsShardHeader}
 -- for each locked batch there is memory for a decision on each entry
 abbrev pub HaveDecisions : List Record → List (Vec Bool) → Type 0
 HaveDecisions J memory =
-    (lane : ℕ) (m : Vec Bool) → slice_get memory lane ≡ Some m → (slot J lane).phase ≡ InLock → length (lock_of J (open_batch J lane)) ≤ vec_capacity m
+    (lane : ℕ) (m : Vec Bool) → slice_get memory lane ≡ Some m → (slot J lane).phase ≡ InLock
+    → length (lock_of J (open_batch J lane)) ≤ vec_capacity m
 
 -- there is memory for the records behind those of unfinished batches, of which each takes 34 bytes at least, up to the largest Finish
 pub record HasRecords {D : Type 0} {G : Ghosts D} (log : RecordLog D G) (kept : ℕ) : Type 0 where

@@ -22,7 +22,8 @@ pub on_shard-append : (shards s : ℕ) (xs ys : List Digest) → on_shard shards
 on_shard-append shards s [] ys = refl
 on_shard-append shards s (x ∷ xs) ys =
     elim (shard_of shards x == s)
-    as (λ c. cond c (x ∷ on_shard shards s (xs ++ ys)) (on_shard shards s (xs ++ ys)) ≡ cond c (x ∷ on_shard shards s xs) (on_shard shards s xs) ++ on_shard shards s ys) [
+    as (λ c. cond c (x ∷ on_shard shards s (xs ++ ys)) (on_shard shards s (xs ++ ys))
+    ≡ cond c (x ∷ on_shard shards s xs) (on_shard shards s xs) ++ on_shard shards s ys) [
       | true ↦ ap (λ zs. x ∷ zs) (on_shard-append shards s xs ys)
       | false ↦ on_shard-append shards s xs ys
     ]
@@ -36,7 +37,8 @@ part-append shards s k [] t n e =
 part-append shards s k (u ∷ us) t n e =
     elim (is_empty (on_shard shards s u.inputs) && is_empty (on_shard shards s u.outputs))
     as (λ c. cond c (part shards s (suc k) (us ++ t ∷ [])) (entry_of shards s k u ∷ part shards s (suc k) (us ++ t ∷ []))
-    ≡ cond c (part shards s (suc k) us) (entry_of shards s k u ∷ part shards s (suc k) us) ++ entry_if n t.id (on_shard shards s t.inputs) (on_shard shards s t.outputs)) [
+    ≡ cond c (part shards s (suc k) us) (entry_of shards s k u ∷ part shards s (suc k) us)
+    ++ entry_if n t.id (on_shard shards s t.inputs) (on_shard shards s t.outputs)) [
       | true ↦ part-append shards s (suc k) us t n (omega arith)
       | false ↦ ap (λ es. entry_of shards s k u ∷ es) (part-append shards s (suc k) us t n (omega arith))
     ]

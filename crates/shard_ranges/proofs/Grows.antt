@@ -9,7 +9,8 @@ use Rattle.shard_ranges.specs.Parts.{AreBefore, AreGrown, AreSplit, entry_if}
 use Rattle.shard_ranges.proofs.Places.{get_set_same, get_set_other}
 use Rattle.shard_ranges.proofs.Entries.{part_is_before, on_shard-append}
 
-on_shard_here : (shards : ℕ) (x : Digest) (xs : List Digest) → on_shard shards (shard_of shards x) (xs ++ x ∷ []) ≡ on_shard shards (shard_of shards x) xs ++ x ∷ []
+on_shard_here : (shards : ℕ) (x : Digest) (xs : List Digest)
+    → on_shard shards (shard_of shards x) (xs ++ x ∷ []) ≡ on_shard shards (shard_of shards x) xs ++ x ∷ []
 on_shard_here shards x xs =
     let e : (shard_of shards x == shard_of shards x) ≡ true = grind (arith, nat_tests) in
     on_shard-append shards (shard_of shards x) xs (x ∷ []) ∙ rw e refl
@@ -24,7 +25,8 @@ abbrev Grows : ℕ → List Compact → (ℕ → List Entry) → List (Vec Entry
 Grows shards txs tail parts = (s : ℕ) (p : Vec Entry) → slice_get parts s ≡ Some p → p.items ≡ part shards s 0 txs ++ tail s
 
 -- one shard's part is put in place, and the others stay
-put_grows : (shards : ℕ) (txs : List Compact) (old new : ℕ → List Entry) (parts : List (Vec Entry)) (at : ℕ) (w : Vec Entry) → Grows shards txs old parts
+put_grows : (shards : ℕ) (txs : List Compact) (old new : ℕ → List Entry) (parts : List (Vec Entry)) (at : ℕ) (w : Vec Entry)
+    → Grows shards txs old parts
     → w.items ≡ part shards at 0 txs ++ new at → ((s : ℕ) → at ≢ s → old s ≡ new s) → Grows shards txs new (set parts at w)
 put_grows shards txs old new parts at w grown here others s p g =
     elim (at == s) as (λ c. (at == s) ≡ c → p.items ≡ part shards s 0 txs ++ new s) [
@@ -37,9 +39,11 @@ put_grows shards txs old new parts at w grown here others s p g =
           grown s p (sym (get_set_other parts at s w apart) ∙ g) ∙ ap (λ zs. part shards s 0 txs ++ zs) (others s apart)
     ] refl
 
-pub input_grows : (shards : ℕ) (txs : List Compact) (place : ℕ) (id x : Digest) (ins outs : List Digest) (parts : List (Vec Entry)) (v w : Vec Entry) → length txs ≡ place
+pub input_grows : (shards : ℕ) (txs : List Compact) (place : ℕ) (id x : Digest) (ins outs : List Digest) (parts : List (Vec Entry)) (v w : Vec Entry)
+    → length txs ≡ place
     → AreGrown shards txs place id ins outs parts → slice_get parts (shard_of shards x) ≡ Some v
-    → ((before : List Entry) (is os : List Digest) → AreBefore place before → v.items ≡ before ++ entry_if place id is os → w.items ≡ before ++ entry_if place id (is ++ x ∷ []) os)
+    → ((before : List Entry) (is os : List Digest) → AreBefore place before → v.items ≡ before ++ entry_if place id is os
+    → w.items ≡ before ++ entry_if place id (is ++ x ∷ []) os)
     → AreGrown shards txs place id (ins ++ x ∷ []) outs (set parts (shard_of shards x) w)
 input_grows shards txs place id x ins outs parts v w len grown at step =
     put_grows shards txs
@@ -48,12 +52,15 @@ input_grows shards txs place id x ins outs parts v w len grown at step =
     parts (shard_of shards x) w grown
     (step (part shards (shard_of shards x) 0 txs) (on_shard shards (shard_of shards x) ins) (on_shard shards (shard_of shards x) outs)
     (part_is_before shards (shard_of shards x) txs place len) (grown (shard_of shards x) v at)
-    ∙ ap (λ zs. part shards (shard_of shards x) 0 txs ++ entry_if place id zs (on_shard shards (shard_of shards x) outs)) (sym (on_shard_here shards x ins)))
+    ∙ ap (λ zs. part shards (shard_of shards x) 0 txs ++ entry_if place id zs (on_shard shards (shard_of shards x) outs))
+    (sym (on_shard_here shards x ins)))
     (λ s apart. ap (λ zs. entry_if place id zs (on_shard shards s outs)) (sym (on_shard_other shards s x ins apart)))
 
-pub output_grows : (shards : ℕ) (txs : List Compact) (place : ℕ) (id x : Digest) (ins outs : List Digest) (parts : List (Vec Entry)) (v w : Vec Entry) → length txs ≡ place
+pub output_grows : (shards : ℕ) (txs : List Compact) (place : ℕ) (id x : Digest) (ins outs : List Digest) (parts : List (Vec Entry))
+    (v w : Vec Entry) → length txs ≡ place
     → AreGrown shards txs place id ins outs parts → slice_get parts (shard_of shards x) ≡ Some v
-    → ((before : List Entry) (is os : List Digest) → AreBefore place before → v.items ≡ before ++ entry_if place id is os → w.items ≡ before ++ entry_if place id is (os ++ x ∷ []))
+    → ((before : List Entry) (is os : List Digest) → AreBefore place before → v.items ≡ before ++ entry_if place id is os
+    → w.items ≡ before ++ entry_if place id is (os ++ x ∷ []))
     → AreGrown shards txs place id ins (outs ++ x ∷ []) (set parts (shard_of shards x) w)
 output_grows shards txs place id x ins outs parts v w len grown at step =
     put_grows shards txs
@@ -62,9 +69,11 @@ output_grows shards txs place id x ins outs parts v w len grown at step =
     parts (shard_of shards x) w grown
     (step (part shards (shard_of shards x) 0 txs) (on_shard shards (shard_of shards x) ins) (on_shard shards (shard_of shards x) outs)
     (part_is_before shards (shard_of shards x) txs place len) (grown (shard_of shards x) v at)
-    ∙ ap (λ zs. part shards (shard_of shards x) 0 txs ++ entry_if place id (on_shard shards (shard_of shards x) ins) zs) (sym (on_shard_here shards x outs)))
+    ∙ ap (λ zs. part shards (shard_of shards x) 0 txs ++ entry_if place id (on_shard shards (shard_of shards x) ins) zs)
+    (sym (on_shard_here shards x outs)))
     (λ s apart. ap (λ zs. entry_if place id (on_shard shards s ins) zs) (sym (on_shard_other shards s x outs apart)))
 
 -- before the first hash
-pub none_grown : (shards : ℕ) (txs : List Compact) (place : ℕ) (id : Digest) (parts : List (Vec Entry)) → AreSplit shards txs parts → AreGrown shards txs place id [] [] parts
+pub none_grown : (shards : ℕ) (txs : List Compact) (place : ℕ) (id : Digest) (parts : List (Vec Entry)) → AreSplit shards txs parts
+    → AreGrown shards txs place id [] [] parts
 none_grown shards txs place id parts split s p g = split s p g ∙ sym (append-nil (part shards s 0 txs))

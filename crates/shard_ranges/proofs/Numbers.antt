@@ -1,5 +1,6 @@
 -- The concerned shards among all.
-use Rattle.std.proofs.Common.{◌≡◌, ◌≢◌, ℕ, zero, suc, ◌+◌, ◌<◌, ◌≤◌, Bool, true, false, ◌&&◌, ◌==◌, not, nat_lt, List, [], ◌∷◌, ◌++◌, length, Some, slice_get, refl, sym, ap, ◌∙◌, subst, arith, cond}
+use Rattle.std.proofs.Common.{◌≡◌, ◌≢◌, ℕ, zero, suc, ◌+◌, ◌<◌, ◌≤◌, Bool, true, false, ◌&&◌, ◌==◌, not, nat_lt, List, [], ◌∷◌, ◌++◌, length, Some}
+use Rattle.std.proofs.Common.{slice_get, refl, sym, ap, ◌∙◌, subst, arith, cond}
 use Rattle.std.proofs.lemmas.Bool.Decides.{nat_tests}
 use Rattle.std.proofs.lemmas.List.{append-nil}
 use Rattle.std.specs.Global.{Vec}
@@ -11,12 +12,14 @@ use Rattle.shard_ranges.specs.Parts.{AllAbove, IsRising, NotAmong, Every, IsPart
 abbrev AreFrom : ℕ → List Compact → ℕ → List (Vec Entry) → Type 0
 AreFrom shards txs n ps = (s : ℕ) (p : Vec Entry) → slice_get ps s ≡ Some p → p.items ≡ part shards (n + s) 0 txs
 
-next_from : (shards : ℕ) (txs : List Compact) (n : ℕ) (p : Vec Entry) (ps : List (Vec Entry)) → AreFrom shards txs n (p ∷ ps) → AreFrom shards txs (suc n) ps
+next_from : (shards : ℕ) (txs : List Compact) (n : ℕ) (p : Vec Entry) (ps : List (Vec Entry)) → AreFrom shards txs n (p ∷ ps)
+    → AreFrom shards txs (suc n) ps
 next_from shards txs n p ps from s q g =
     let e : n + suc s ≡ suc n + s = omega arith in
     subst (λ (k : ℕ). q.items ≡ part shards k 0 txs) e (from (suc s) q g)
 
-first_from : (shards : ℕ) (txs : List Compact) (n : ℕ) (p : Vec Entry) (ps : List (Vec Entry)) → AreFrom shards txs n (p ∷ ps) → p.items ≡ part shards n 0 txs
+first_from : (shards : ℕ) (txs : List Compact) (n : ℕ) (p : Vec Entry) (ps : List (Vec Entry)) → AreFrom shards txs n (p ∷ ps)
+    → p.items ≡ part shards n 0 txs
 first_from shards txs n p ps from =
     let e : n + 0 ≡ n = omega arith in
     subst (λ (k : ℕ). p.items ≡ part shards k 0 txs) e (from 0 p refl)
@@ -37,18 +40,21 @@ rising n (p ∷ ps) =
       | false ↦ (above_more n (suc n) ps (omega arith), rising (suc n) ps)
     ]
 
-concerned_at : (K : Shape) (txs : List Compact) (n : ℕ) (es : List Entry) → n < K.shards → es ≡ part K.shards n 0 txs → is_no_part es ≡ false → is_concerned K txs n ≡ true
+concerned_at : (K : Shape) (txs : List Compact) (n : ℕ) (es : List Entry) → n < K.shards → es ≡ part K.shards n 0 txs → is_no_part es ≡ false
+    → is_concerned K txs n ≡ true
 concerned_at K txs n es lt e some =
     let within : nat_lt n K.shards ≡ true = grind (arith, nat_tests) in
     let full : is_no_part (part K.shards n 0 txs) ≡ false = ap is_no_part (sym e) ∙ some in
     rw (within, full) refl
 
-pub every : (K : Shape) (txs : List Compact) (n : ℕ) (ps : List (Vec Entry)) → n + length ps ≤ K.shards → AreFrom K.shards txs n ps → Every (IsPart K txs) (numbered n ps)
+pub every : (K : Shape) (txs : List Compact) (n : ℕ) (ps : List (Vec Entry)) → n + length ps ≤ K.shards → AreFrom K.shards txs n ps
+    → Every (IsPart K txs) (numbered n ps)
 every K txs n [] le from = tt
 every K txs n (p ∷ ps) le from =
     let here = first_from K.shards txs n p ps from in
     let rest = every K txs (suc n) ps (omega arith) (next_from K.shards txs n p ps from) in
-    elim (is_no_part p.items) as (λ c. is_no_part p.items ≡ c → Every (IsPart K txs) (cond c (numbered (suc n) ps) ((n, p.items) ∷ numbered (suc n) ps))) [
+    elim (is_no_part p.items) as (λ c. is_no_part p.items ≡ c
+    → Every (IsPart K txs) (cond c (numbered (suc n) ps) ((n, p.items) ∷ numbered (suc n) ps))) [
       | true ↦ λ _. rest
       | false ↦ λ some. ((concerned_at K txs n p.items (omega arith) here some, here), rest)
     ] refl
@@ -63,13 +69,15 @@ not_among K txs n (p ∷ ps) s le lt from out =
     elim (n == s) as (λ c. (n == s) ≡ c → is_no_part (part K.shards s 0 txs) ≡ true) [
       | true ↦ λ t.
           let same : n ≡ s = grind (arith, nat_tests) in
-          elim (is_no_part p.items) as (λ c. is_no_part p.items ≡ c → NotAmong shard (cond c (numbered (suc n) ps) ((n, p.items) ∷ numbered (suc n) ps)) s → is_no_part (part K.shards s 0 txs) ≡ true) [
+          elim (is_no_part p.items) as (λ c. is_no_part p.items ≡ c
+          → NotAmong shard (cond c (numbered (suc n) ps) ((n, p.items) ∷ numbered (suc n) ps)) s → is_no_part (part K.shards s 0 txs) ≡ true) [
             | true ↦ λ none _. subst (λ (k : ℕ). is_no_part (part K.shards k 0 txs) ≡ true) same (ap is_no_part (sym here) ∙ none)
             | false ↦ λ _ o. let apart = o.0 in cc
           ] refl out
       | false ↦ λ f.
           let apart : n ≢ s = grind (arith, nat_tests) in
-          elim (is_no_part p.items) as (λ c. NotAmong shard (cond c (numbered (suc n) ps) ((n, p.items) ∷ numbered (suc n) ps)) s → is_no_part (part K.shards s 0 txs) ≡ true) [
+          elim (is_no_part p.items) as (λ c. NotAmong shard (cond c (numbered (suc n) ps) ((n, p.items) ∷ numbered (suc n) ps)) s
+          → is_no_part (part K.shards s 0 txs) ≡ true) [
             | true ↦ λ o. not_among K txs (suc n) ps s (omega arith) (omega arith) later o
             | false ↦ λ o. not_among K txs (suc n) ps s (omega arith) (omega arith) later o.1
           ] out
@@ -80,7 +88,8 @@ concerned_parts true true e = absurd (cc)
 concerned_parts true false e = (refl, refl)
 concerned_parts false b e = absurd (cc)
 
-pub are_parts : (K : Shape) (txs : List Compact) (ps : List (Vec Entry)) → length ps ≡ K.shards → AreSplit K.shards txs ps → AreParts K txs (numbered 0 ps)
+pub are_parts : (K : Shape) (txs : List Compact) (ps : List (Vec Entry)) → length ps ≡ K.shards → AreSplit K.shards txs ps
+    → AreParts K txs (numbered 0 ps)
 are_parts K txs ps len split = record {
   every = every K txs 0 ps (omega arith) (λ s p g. rw (from_zero s) (split s p g));
   rising = rising 0 ps;
@@ -118,7 +127,8 @@ kept_none n p found e = let none = no_part_at p.items (sym p.ok.0 ∙ e) in rw n
 pub kept_some : (n : ℕ) (p : Vec Entry) (found : List (ℕ × List Entry)) → p.len ≢ 0 → found ++ (n, p.items) ∷ [] ≡ found ++ numbered n (p ∷ [])
 kept_some n p found e = let some = some_part_at p.items (λ z. e (p.ok.0 ∙ z)) in rw some refl
 
-pub numbered_more : (n : ℕ) (xs : List (Vec Entry)) (x : Vec Entry) (old new : List (ℕ × List Entry)) → n ≡ length xs → old ≡ numbered 0 xs → new ≡ old ++ numbered n (x ∷ [])
+pub numbered_more : (n : ℕ) (xs : List (Vec Entry)) (x : Vec Entry) (old new : List (ℕ × List Entry)) → n ≡ length xs → old ≡ numbered 0 xs
+    → new ≡ old ++ numbered n (x ∷ [])
     → new ≡ numbered 0 (xs ++ x ∷ [])
 numbered_more n xs x old new e o h = h ∙ ap (λ zs. zs ++ numbered n (x ∷ [])) o ∙ sym (numbered-append 0 n xs (x ∷ []) (omega arith))
 

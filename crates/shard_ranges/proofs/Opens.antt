@@ -1,5 +1,6 @@
 -- The last entry of a part, where a transaction's hashes come one by one.
-use Rattle.std.proofs.Common.{◌≡◌, ◌≢◌, ℕ, zero, suc, ◌-◌, ◌<◌, Bool, true, false, ◌&&◌, List, [], ◌∷◌, ◌++◌, length, set, get_or, Some, slice_get, refl, ◌∙◌, subst, arith, cond}
+use Rattle.std.proofs.Common.{◌≡◌, ◌≢◌, ℕ, zero, suc, ◌-◌, ◌<◌, Bool, true, false, ◌&&◌, List, [], ◌∷◌, ◌++◌, length, set, get_or, Some, slice_get}
+use Rattle.std.proofs.Common.{refl, ◌∙◌, subst, arith, cond}
 use Rattle.std.proofs.lemmas.List.{append-nil}
 use Rattle.cbdc_model.specs.Records.{Digest, Entry}
 use Rattle.cbdc_model.specs.Ranges.{is_empty}
@@ -19,7 +20,8 @@ pub opened_here : (es before : List Entry) (place : ℕ) (id : Digest) (ins outs
     → es ≡ before ++ entry_if place id ins outs → slice_get es (length es - 1) ≡ Some last → last.place ≡ place
     → es ≡ before ++ made place id ins outs ∷ []
 opened_here es before place id ins outs last b e g p =
-    elim (is_empty ins && is_empty outs) as (λ c. es ≡ before ++ cond c [] (made place id ins outs ∷ []) → es ≡ before ++ made place id ins outs ∷ []) [
+    elim (is_empty ins && is_empty outs) as (λ c. es ≡ before ++ cond c [] (made place id ins outs ∷ [])
+    → es ≡ before ++ made place id ins outs ∷ []) [
       | true ↦ λ h.
           let same : es ≡ before = h ∙ append-nil before in
           let at : slice_get before (length es - 1) ≡ Some last = subst (λ (xs : List Entry). slice_get xs (length es - 1) ≡ Some last) same g in
@@ -54,7 +56,8 @@ not_empty [] x = refl
 not_empty (y ∷ xs) x = refl
 
 -- the last entry with one more input or output
-pub with_input : (es before : List Entry) (n place : ℕ) (id x : Digest) (ins outs more : List Digest) (got : Entry) → es ≡ before ++ made place id ins outs ∷ [] → n ≡ length es
+pub with_input : (es before : List Entry) (n place : ℕ) (id x : Digest) (ins outs more : List Digest) (got : Entry)
+    → es ≡ before ++ made place id ins outs ∷ [] → n ≡ length es
     → got ≡ get_or es (n - 1) got → more ≡ got.inputs ++ x ∷ []
     → set es (n - 1) (made got.place got.id more got.outputs) ≡ before ++ entry_if place id (ins ++ x ∷ []) outs
 with_input es before n place id x ins outs more got e len read m =
@@ -66,7 +69,8 @@ and_false : (b : Bool) → (b && false) ≡ false
 and_false true = refl
 and_false false = refl
 
-pub with_output : (es before : List Entry) (n place : ℕ) (id x : Digest) (ins outs more : List Digest) (got : Entry) → es ≡ before ++ made place id ins outs ∷ [] → n ≡ length es
+pub with_output : (es before : List Entry) (n place : ℕ) (id x : Digest) (ins outs more : List Digest) (got : Entry)
+    → es ≡ before ++ made place id ins outs ∷ [] → n ≡ length es
     → got ≡ get_or es (n - 1) got → more ≡ got.outputs ++ x ∷ []
     → set es (n - 1) (made got.place got.id got.inputs more) ≡ before ++ entry_if place id ins (outs ++ x ∷ [])
 with_output es before n place id x ins outs more got e len read m =

@@ -38,7 +38,9 @@ journal_law h backups first [] w = ([], begun h (first ∷ []) backups, refl, be
 journal_law h backups first (r ∷ more) w =
     let p = below h r (more ++ first ∷ []) (ends_some first more) w in
     let before = journal_law h backups first more p.1 in
-    let some : 1 ≤ length (reverse (more ++ first ∷ [])) = (let l : length (reverse (more ++ first ∷ [])) ≡ length (more ++ first ∷ []) = length-reverse (more ++ first ∷ []) in omega (arith, l, ends_some first more)) in
+    let some : 1 ≤ length (reverse (more ++ first ∷ [])) =
+    (let l : length (reverse (more ++ first ∷ [])) ≡ length (more ++ first ∷ []) = length-reverse (more ++ first ∷ []) in
+    omega (arith, l, ends_some first more)) in
     let next : After h (reverse (reverse (more ++ first ∷ []))) r = subst (λ xs. After h xs r) (sym (reverse-reverse (more ++ first ∷ []))) p.0 in
     let k = round_reach h backups (reverse (more ++ first ∷ [])) r some before.1 before.3 next in (
       before.0 ++ round backups before.1 r,

@@ -36,7 +36,8 @@ first_stands K m submissions node backups lt =
     record {
       in_world = omega arith;
       up = ap (λ v. v.up) here;
-      journal = ap (λ v. model.flushed v.flight v.journal) here ∙ ap reverse (sym (first_held (header_of K m.id node) (model.first_record K m node ∷ []) backups));
+      journal = ap (λ v. model.flushed v.flight v.journal) here
+          ∙ ap reverse (sym (first_held (header_of K m.id node) (model.first_record K m node ∷ []) backups));
       flying = ap (λ v. is_some v.flight) here;
     }
 
@@ -45,7 +46,8 @@ promoted_law K mint submissions node backups moves events g w shards lanes lt cl
     let first = model.first_record K (minted mint) node ∷ [] in
     let h = header_of K (minted mint).id node in
     let k = beside K (minted mint) node moves (begun h first backups) (model.init K (minted mint)) events g w
-    (record { sound = begun_sound h first backups (omega arith); stands = first_stands K (minted mint) submissions node backups lt; header = refl }) b in
+    (record { sound = begun_sound h first backups (omega arith); stands = first_stands K (minted mint) submissions node backups lt; header = refl })
+    b in
     let stands = k.1.stands in (
       headline_law K mint submissions events w shards lanes clean pass k.0 recovered,
       subst (λ f. model.flushed f (model.journals w node) ≡ reverse (held g)) (recovered.quiet node stands.in_world) stands.journal,

@@ -1,5 +1,6 @@
 -- A record that goes round a group at rest.
-use Rattle.std.proofs.Common.{◌≡◌, inl, inr, ℕ, zero, suc, ◌+◌, ◌*◌, ◌<◌, ◌≤◌, max, true, ◌||◌, not, ◌==◌, if◌then◌else◌, List, [], ◌∷◌, ◌++◌, length, reverse, set, get_or-set_same, get_or-set_other, Some, slice_get, refl, sym, ap, ◌∙◌, subst, arith, eq-eqb}
+use Rattle.std.proofs.Common.{◌≡◌, inl, inr, ℕ, zero, suc, ◌+◌, ◌*◌, ◌<◌, ◌≤◌, max, true, ◌||◌, not, ◌==◌, if◌then◌else◌, List, [], ◌∷◌, ◌++◌, length}
+use Rattle.std.proofs.Common.{reverse, set, get_or-set_same, get_or-set_other, Some, slice_get, refl, sym, ap, ◌∙◌, subst, arith, eq-eqb}
 use Rattle.std.proofs.lemmas.List.{length-set, length_push}
 use Rattle.std.proofs.lemmas.Bool.{cases_eq, cases_Bool, and_from, or_right, or_left}
 use Rattle.cbdc_model.specs.Records.{Header, Record}
@@ -75,7 +76,8 @@ module _ (h : Header) (backups : ℕ) (records : List Record) (r : Record) (some
     two = effect one (Deliver (sent + 2 * n))
 
     found : slice_get one.sent (sent + 2 * n) ≡ Some (Copy b 1 place r)
-    found = ap (λ xs. slice_get xs (sent + 2 * n)) one_sent ∙ ap (λ k. slice_get (g.sent ++ Copy b 1 place r ∷ []) k) (sym i.sent_count) ∙ get_push g.sent (Copy b 1 place r)
+    found = ap (λ xs. slice_get xs (sent + 2 * n)) one_sent ∙ ap (λ k. slice_get (g.sent ++ Copy b 1 place r ∷ []) k) (sym i.sent_count)
+        ∙ get_push g.sent (Copy b 1 place r)
 
     coming : Step one (Deliver (sent + 2 * n)) two
     coming = inl ((Copy b 1 place r, found, ap (λ m. m.inside) was), refl)
@@ -97,7 +99,8 @@ module _ (h : Header) (backups : ℕ) (records : List Record) (r : Record) (some
     one_count = ap length one_sent ∙ length_push g.sent (Copy b 1 place r) ∙ ap (λ k. k + 1) i.sent_count
 
     found_ack : slice_get two.sent (sent + 2 * n + 1) ≡ Some (Ack b 1 (length all))
-    found_ack = ap (λ xs. slice_get xs (sent + 2 * n + 1)) two_sent ∙ ap (λ k. slice_get (one.sent ++ Ack b 1 (length all) ∷ []) k) (sym one_count) ∙ get_push one.sent (Ack b 1 (length all))
+    found_ack = ap (λ xs. slice_get xs (sent + 2 * n + 1)) two_sent ∙ ap (λ k. slice_get (one.sent ++ Ack b 1 (length all) ∷ []) k) (sym one_count)
+        ∙ get_push one.sent (Ack b 1 (length all))
 
     telling : Step two (Deliver (sent + 2 * n + 1)) three
     telling = inl ((Ack b 1 (length all), found_ack, tt), refl)
@@ -137,7 +140,8 @@ module _ (h : Header) (backups : ℕ) (records : List Record) (r : Record) (some
         ∙ ap (λ (m : Member). record { inside = m.inside; term = m.term; records = all }) was
 
     at_other : (c : ℕ) → (c ≡ b → ⊥) → member_at after c ≡ member_at g c
-    at_other c ne = get_or-set_other g.members b c (record { inside = (member_at g b).inside; term = (member_at g b).term; records = all }) no_member ne
+    at_other c ne = get_or-set_other g.members b c (record { inside = (member_at g b).inside; term = (member_at g b).term; records = all }) no_member
+        ne
 
     known_b : known_of after b ≡ length all
     known_b =
@@ -158,7 +162,8 @@ module _ (h : Header) (backups : ℕ) (records : List Record) (r : Record) (some
       still = λ c lt le. at_other c (λ e. omega arith) ∙ i.still c (omega arith) le;
       primary = i.primary;
       term = i.term;
-      sent_count = length_push one.sent (Ack b (member_at g b).term (length all)) ∙ (let l : length one.sent ≡ sent + 2 * n + 1 = one_count in omega arith);
+      sent_count = length_push one.sent (Ack b (member_at g b).term (length all))
+          ∙ (let l : length one.sent ≡ sent + 2 * n + 1 = one_count in omega arith);
       known_count = length-set g.known b (max (known_of g b) (length all)) ∙ i.known_count;
       told = λ c low le. elim (cases_eq c b) [
         | inl e ↦ ap (known_of after) e ∙ known_b
@@ -197,7 +202,8 @@ module _ (h : Header) (backups : ℕ) (records : List Record) (r : Record) (some
         | inl e ↦
             or_left (not (is_backup g n)) (known_of g n == length all)
             (let own : (n == g.primary) ≡ true = eq-eqb n g.primary (e ∙ sym i.primary) in no_backup n own)
-        | inr ne ↦ or_right (not (is_backup g n)) (known_of g n == length all) (eq-eqb (known_of g n) (length all) (i.told n (omega (arith, ne)) (omega arith)))
+        | inr ne ↦ or_right (not (is_backup g n)) (known_of g n == length all)
+            (eq-eqb (known_of g n) (length all) (i.told n (omega (arith, ne)) (omega arith)))
       ])
     where
       no_backup : (n : ℕ) → (n == g.primary) ≡ true → not (is_backup g n) ≡ true
@@ -206,7 +212,8 @@ module _ (h : Header) (backups : ℕ) (records : List Record) (r : Record) (some
         | inr f ↦ rw f
       ]
 
-  pub round_reach : (g : Group) → IsAtRest h backups records g → After h (reverse records) r → (k : Group) × Run g (round backups g r) k × IsAtRest h backups all k
+  pub round_reach : (g : Group) → IsAtRest h backups records g → After h (reverse records) r
+      → (k : Group) × Run g (round backups g r) k × IsAtRest h backups all k
   round_reach g rest next =
       let own : member_at g g.primary ≡ with records = ap (member_at g) rest.primary ∙ rest.members 0 (omega arith) in
       let held_g : held g ≡ records = ap (λ m. m.records) own in
@@ -217,13 +224,16 @@ module _ (h : Header) (backups : ℕ) (records : List Record) (r : Record) (some
       ) in
       let in_it : g.primary < length g.members = omega (arith, rest.primary, rest.count) in
       let at_own : member_at (effect g (Take r)) g.primary ≡ with all
-      = get_or-set_same g.members g.primary (record { inside = (member_at g g.primary).inside; term = (member_at g g.primary).term; records = held g ++ r ∷ [] }) no_member in_it
+      = get_or-set_same g.members g.primary (record
+      { inside = (member_at g g.primary).inside; term = (member_at g g.primary).term; records = held g ++ r ∷ [] }) no_member in_it
       ∙ ap (λ (m : Member). record { inside = m.inside; term = m.term; records = m.records ++ r ∷ [] }) own in
       let at_other : (c : ℕ) → (c ≡ g.primary → ⊥) → member_at (effect g (Take r)) c ≡ member_at g c
-      = λ c ne. get_or-set_other g.members g.primary c (record { inside = (member_at g g.primary).inside; term = (member_at g g.primary).term; records = held g ++ r ∷ [] }) no_member ne in
+      = λ c ne. get_or-set_other g.members g.primary c
+      (record { inside = (member_at g g.primary).inside; term = (member_at g g.primary).term; records = held g ++ r ∷ [] }) no_member ne in
       let start : IsBetween (length g.sent) 0 (effect g (Take r)) = record {
         header = rest.header;
-        count = length-set g.members g.primary (record { inside = (member_at g g.primary).inside; term = (member_at g g.primary).term; records = held g ++ r ∷ [] }) ∙ rest.count;
+        count = length-set g.members g.primary (record
+            { inside = (member_at g g.primary).inside; term = (member_at g g.primary).term; records = held g ++ r ∷ [] }) ∙ rest.count;
         got = λ b le. (let e : b ≡ g.primary = omega (arith, rest.primary) in ap (member_at (effect g (Take r))) e ∙ at_own);
         still = λ b lt le. at_other b (λ e. omega (arith, rest.primary)) ∙ rest.members b le;
         primary = rest.primary;
@@ -238,13 +248,15 @@ module _ (h : Header) (backups : ℕ) (records : List Record) (r : Record) (some
       let i = k.between in
       let whole : held k.last ≡ all = held_is (length g.sent) backups k.last i in
       let told : is_told k.last ≡ true
-      = subst (λ xs. are_told k.last (length xs) (length k.last.members) ≡ true) (sym whole) (all_told (length g.sent) k.last i (length k.last.members) (omega (arith, i.count))) in (
+      = subst (λ xs. are_told k.last (length xs) (length k.last.members) ≡ true) (sym whole)
+      (all_told (length g.sent) k.last i (length k.last.members) (omega (arith, i.count))) in (
         effect k.last Answer,
         (
           effect g (Take r),
           inl (may, refl),
           run_more (effect g (Take r)) k.last (effect k.last Answer) (sendings g.answered (length g.sent) backups) (Answer ∷ [])
-              (subst (λ a. Run (effect g (Take r)) (sendings a (length g.sent) backups) k.last) (sym rest.answered) k.run) (effect k.last Answer, inl (told, refl), refl),
+              (subst (λ a. Run (effect g (Take r)) (sendings a (length g.sent) backups) k.last) (sym rest.answered) k.run)
+              (effect k.last Answer, inl (told, refl), refl),
         ),
         record {
           header = i.header;

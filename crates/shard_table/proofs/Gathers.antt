@@ -26,7 +26,8 @@ gathered_none (Some e ∷ slots) x all =
     let other : same_digest e.hash x ≡ false = all 0 e refl in
     rw other (gathered_none slots x (λ i f h. all (suc i) f h))
 
-pub gathered_at : {V : Type 0} (slots : List (Option (Kept V))) (i : ℕ) (e : Kept V) (x : Digest) → slot_at slots i ≡ Some e → same_digest e.hash x ≡ true
+pub gathered_at : {V : Type 0} (slots : List (Option (Kept V))) (i : ℕ) (e : Kept V) (x : Digest) → slot_at slots i ≡ Some e
+    → same_digest e.hash x ≡ true
     → ((j : ℕ) (f : Kept V) → j < i → slot_at slots j ≡ Some f → same_digest f.hash x ≡ false) → lookup (gather slots) x ≡ Some e.value
 gathered_at [] i e x h s before = cc
 gathered_at (None ∷ slots) zero e x h s before = cc
@@ -40,7 +41,8 @@ gathered_at (Some f ∷ slots) (suc i) e x h s before =
     rw other (gathered_at slots i e x h s (λ j k l g. before (suc j) k (omega arith) g))
 
 -- filling a free slot leaves the other hashes
-pub filled_other : {V : Type 0} (slots : List (Option (Kept V))) (i : ℕ) (e : Kept V) (x : Digest) → slot_at slots i ≡ None → same_digest e.hash x ≡ false
+pub filled_other : {V : Type 0} (slots : List (Option (Kept V))) (i : ℕ) (e : Kept V) (x : Digest) → slot_at slots i ≡ None
+    → same_digest e.hash x ≡ false
     → lookup (gather (set slots i (Some e))) x ≡ lookup (gather slots) x
 filled_other [] i e x h other = refl
 filled_other (None ∷ slots) zero e x h other = rw other
@@ -49,7 +51,8 @@ filled_other (None ∷ slots) (suc i) e x h other = filled_other slots i e x h o
 filled_other (Some f ∷ slots) (suc i) e x h other = let rest = filled_other slots i e x h other in rw rest
 
 -- freeing a slot leaves the other hashes
-pub freed_other : {V : Type 0} (slots : List (Option (Kept V))) (i : ℕ) (e : Kept V) (x : Digest) → slot_at slots i ≡ Some e → same_digest e.hash x ≡ false
+pub freed_other : {V : Type 0} (slots : List (Option (Kept V))) (i : ℕ) (e : Kept V) (x : Digest) → slot_at slots i ≡ Some e
+    → same_digest e.hash x ≡ false
     → lookup (gather (set slots i None)) x ≡ lookup (gather slots) x
 freed_other [] i e x h other = refl
 freed_other (None ∷ slots) zero e x h other = refl
@@ -77,10 +80,12 @@ freed_count (None ∷ slots) (suc i) e h = freed_count slots i e h
 freed_count (Some f ∷ slots) (suc i) e h = let rest = freed_count slots i e h in rw rest
 
 -- where no slot is free from a place on, as many hashes stand there
-pub full_count : {V : Type 0} (slots : List (Option (Kept V))) (from : ℕ) → ((m : ℕ) → from ≤ m → m < length slots → is_taken (slot_at slots m) ≡ true)
+pub full_count : {V : Type 0} (slots : List (Option (Kept V))) (from : ℕ)
+    → ((m : ℕ) → from ≤ m → m < length slots → is_taken (slot_at slots m) ≡ true)
     → length slots ≤ from + length (gather slots)
 full_count [] from all = omega arith
 full_count (None ∷ slots) zero all = let no : false ≡ true = all 0 (omega arith) (omega arith) in cc
 full_count (None ∷ slots) (suc from) all = let rest = full_count slots from (λ m l h. all (suc m) (omega arith) (omega arith)) in omega (arith, rest)
 full_count (Some e ∷ slots) zero all = let rest = full_count slots 0 (λ m l h. all (suc m) (omega arith) (omega arith)) in omega (arith, rest)
-full_count (Some e ∷ slots) (suc from) all = let rest = full_count slots from (λ m l h. all (suc m) (omega arith) (omega arith)) in omega (arith, rest)
+full_count (Some e ∷ slots) (suc from) all = let rest = full_count slots from (λ m l h. all (suc m) (omega arith) (omega arith)) in
+    omega (arith, rest)

@@ -1,5 +1,6 @@
 -- The hashes of what is kept under hashes.
-use Rattle.std.proofs.Common.{ℕ, arith, ◌≡◌, ◌+◌, Bool, true, false, not, ◌&&◌, ◌||◌, List, [], ◌∷◌, length, map, Option, Some, None, is_some, if◌then◌else◌, refl, ap, sym, ◌∙◌, subst}
+use Rattle.std.proofs.Common.{ℕ, arith, ◌≡◌, ◌+◌, Bool, true, false, not, ◌&&◌, ◌||◌, List, [], ◌∷◌, length, map, Option, Some, None, is_some}
+use Rattle.std.proofs.Common.{if◌then◌else◌, refl, ap, sym, ◌∙◌, subst}
 use Rattle.cbdc_model.specs.Records.{Digest, same_digest}
 use Rattle.cbdc_model.specs.Status.{has}
 use Rattle.shard_table.specs.declared.slots.Kept.{Kept}
@@ -32,19 +33,24 @@ put_by : {V : Type 0} (t : Bool) (o : Option V) (v : V) → is_some (if t then S
 put_by true o v = refl
 put_by false o v = refl
 
-pub put_members : {V : Type 0} (old new : List (Kept V)) (x : Digest) (v : V) → ((y : Digest) → lookup new y ≡ (if same_digest x y then Some v else lookup old y)) → (y : Digest)
+pub put_members : {V : Type 0} (old new : List (Kept V)) (x : Digest) (v : V)
+    → ((y : Digest) → lookup new y ≡ (if same_digest x y then Some v else lookup old y)) → (y : Digest)
     → has (keys new) y ≡ (same_digest x y || has (keys old) y)
-put_members old new x v kept y = has_is new y ∙ ap is_some (kept y) ∙ put_by (same_digest x y) (lookup old y) v ∙ ap (λ (b : Bool). same_digest x y || b) (sym (has_is old y))
+put_members old new x v kept y = has_is new y ∙ ap is_some (kept y) ∙ put_by (same_digest x y) (lookup old y) v
+    ∙ ap (λ (b : Bool). same_digest x y || b) (sym (has_is old y))
 
 cut_by : {V : Type 0} (t : Bool) (o : Option V) → is_some (if t then None else o) ≡ (not t && is_some o)
 cut_by true o = refl
 cut_by false o = refl
 
-pub cut_members : {V : Type 0} (old new : List (Kept V)) (x : Digest) → ((y : Digest) → lookup new y ≡ (if same_digest x y then None else lookup old y)) → (y : Digest)
+pub cut_members : {V : Type 0} (old new : List (Kept V)) (x : Digest)
+    → ((y : Digest) → lookup new y ≡ (if same_digest x y then None else lookup old y)) → (y : Digest)
     → has (keys new) y ≡ (not (same_digest x y) && has (keys old) y)
-cut_members old new x kept y = has_is new y ∙ ap is_some (kept y) ∙ cut_by (same_digest x y) (lookup old y) ∙ ap (λ (b : Bool). not (same_digest x y) && b) (sym (has_is old y))
+cut_members old new x kept y = has_is new y ∙ ap is_some (kept y) ∙ cut_by (same_digest x y) (lookup old y)
+    ∙ ap (λ (b : Bool). not (same_digest x y) && b) (sym (has_is old y))
 
-pub same_members : {V : Type 0} (old new : List (Kept V)) → ((y : Digest) → lookup new y ≡ lookup old y) → (y : Digest) → has (keys new) y ≡ has (keys old) y
+pub same_members : {V : Type 0} (old new : List (Kept V)) → ((y : Digest) → lookup new y ≡ lookup old y) → (y : Digest)
+    → has (keys new) y ≡ has (keys old) y
 same_members old new kept y = has_is new y ∙ ap is_some (kept y) ∙ sym (has_is old y)
 
 pub absent_has : {V : Type 0} (es : List (Kept V)) (x : Digest) → lookup es x ≡ None → has (keys es) x ≡ false

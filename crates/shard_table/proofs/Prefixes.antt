@@ -1,5 +1,6 @@
 -- What stands in the first slots.
-use Rattle.std.proofs.Common.{◌≡◌, ℕ, zero, suc, ◌+◌, ◌<◌, Bool, true, false, List, [], ◌∷◌, ◌++◌, length, take, replicate, Option, Some, None, if◌then◌else◌, arith, refl, ap, sym, ◌∙◌}
+use Rattle.std.proofs.Common.{◌≡◌, ℕ, zero, suc, ◌+◌, ◌<◌, Bool, true, false, List, [], ◌∷◌, ◌++◌, length, take, replicate, Option, Some, None}
+use Rattle.std.proofs.Common.{if◌then◌else◌, arith, refl, ap, sym, ◌∙◌}
 use Rattle.cbdc_model.specs.Records.{Digest, same_digest}
 use Rattle.shard_table.specs.declared.slots.Kept.{Kept}
 use Rattle.shard_table.specs.Entries.{lookup, IsOnce}
@@ -50,7 +51,8 @@ take_at (s ∷ slots) zero j f h = cc
 take_at (s ∷ slots) (suc i) zero f h = At (omega arith) h
 take_at (s ∷ slots) (suc i) (suc j) f h = elim (take_at slots i j f h) [ At l g ↦ At (omega arith) g ]
 
-pub prefix_absent : {V : Type 0} (slots : List (Option (Kept V))) (i : ℕ) (e : Kept V) → AreOnce slots → slot_at slots i ≡ Some e → lookup (gather (take i slots)) e.hash ≡ None
+pub prefix_absent : {V : Type 0} (slots : List (Option (Kept V))) (i : ℕ) (e : Kept V) → AreOnce slots → slot_at slots i ≡ Some e
+    → lookup (gather (take i slots)) e.hash ≡ None
 prefix_absent slots i e once h =
     gathered_none (take i slots) e.hash (λ j f k. elim (take_at slots i j f k) [
       | At l g ↦
@@ -60,7 +62,8 @@ prefix_absent slots i e once h =
           ] refl
     ])
 
-pub prefix_count : {V : Type 0} (slots : List (Option (Kept V))) (i : ℕ) (e : Kept V) → slot_at slots i ≡ Some e → length (gather (take i slots)) < length (gather slots)
+pub prefix_count : {V : Type 0} (slots : List (Option (Kept V))) (i : ℕ) (e : Kept V) → slot_at slots i ≡ Some e
+    → length (gather (take i slots)) < length (gather slots)
 prefix_count [] i e h = cc
 prefix_count (None ∷ slots) zero e h = cc
 prefix_count (Some f ∷ slots) zero e h = omega arith

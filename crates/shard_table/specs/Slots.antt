@@ -1,5 +1,6 @@
 -- The slots that hashes are kept in, as a circle: each hash stands at its home or behind it, with no free slot in between.
-use Rattle.std.specs.Prelude.{◌≡◌, ◌≢◌, ◌⊎◌, ℕ, ◌*◌, ◌/◌, ◌%◌, ◌<◌, ◌≤◌, ◌^◌, ◌==◌, Bool, true, false, List, [], ◌∷◌, length, take, drop, if◌then◌else◌, Option, Some, None, slice_index_or}
+use Rattle.std.specs.Prelude.{◌≡◌, ◌≢◌, ◌⊎◌, ℕ, ◌*◌, ◌/◌, ◌%◌, ◌<◌, ◌≤◌, ◌^◌, ◌==◌, Bool, true, false, List, [], ◌∷◌, length, take, drop}
+use Rattle.std.specs.Prelude.{if◌then◌else◌, Option, Some, None, slice_index_or}
 use Rattle.std.specs.Int.{w64, from_le_bytes}
 use Rattle.cbdc_model.specs.Records.{Digest, same_digest}
 use Rattle.shard_table.specs.declared.slots.Kept.{Kept}
@@ -67,7 +68,8 @@ AreOnce slots = (i j : ℕ) (e f : Kept _) → slot_at slots i ≡ Some e → sl
 
 -- from each hash's home up to it all slots but the gap are taken, and no hash stands twice
 pub record ArePlacedSlots {V : Type 0} (slots : List (Option (Kept V))) (homes gap : ℕ) : Type 0 where
-  pub filled : (i m : ℕ) (e : Kept V) → slot_at slots i ≡ Some e → m < homes → Passed (home_slot homes e.hash) i m → m ≢ gap → is_taken (slot_at slots m) ≡ true
+  pub filled : (i m : ℕ) (e : Kept V) → slot_at slots i ≡ Some e → m < homes → Passed (home_slot homes e.hash) i m → m ≢ gap
+      → is_taken (slot_at slots m) ≡ true
   pub once : AreOnce slots
 
 -- the slots with no gap

@@ -11,10 +11,12 @@ use Rattle.node_journal.specs.Nodes.{NodeOf}
 use Rattle.status_command.specs.Texts.{journal_there, status_among}
 
 -- one item more was taken through a function
-pub map_more : {A B : Type 0} (f : A → B) (xs : List A) (i : ℕ) (x : A) (before now : List B) → i < length xs → x ≡ slice_index_or xs i x → now ≡ before ++ f x ∷ [] → before ≡ map f (take i xs) → now ≡ map f (take (i + 1) xs)
+pub map_more : {A B : Type 0} (f : A → B) (xs : List A) (i : ℕ) (x : A) (before now : List B) → i < length xs → x ≡ slice_index_or xs i x
+    → now ≡ before ++ f x ∷ [] → before ≡ map f (take i xs) → now ≡ map f (take (i + 1) xs)
 map_more {A} {B} f xs i x before now inside here pushed so_far =
     let next : suc i ≡ i + 1 = omega arith in
-    pushed ∙ ap (λ (l : List B). l ++ (f x ∷ [])) so_far ∙ ap (λ (y : A). map f (take i xs) ++ (f y ∷ [])) here ∙ sym (map-append f (take i xs) (slice_index_or xs i x ∷ []))
+    pushed ∙ ap (λ (l : List B). l ++ (f x ∷ [])) so_far ∙ ap (λ (y : A). map f (take i xs) ++ (f y ∷ [])) here
+    ∙ sym (map-append f (take i xs) (slice_index_or xs i x ∷ []))
     ∙ ap (map f) (sym (take-suc xs i x inside)) ∙ ap (λ (k : ℕ). map f (take k xs)) next
 
 module _ {N : Type 0} (journal : N → List Record) where
@@ -36,9 +38,11 @@ module _ {D : Type 0} (shards : List (NodeOf D)) (count : ℕ) (x : Digest) (k :
   pub status_there : (s : NodeOf D) → k < length shards → s ≡ slice_index_or shards k s → status s.journal x ≡ status_among shards x
   status_there s inside is =
       let at : slice_get shards k ≡ Some s = slice_get-get_or shards k s inside ∙ ap (λ (y : NodeOf D). Some y) (sym is) in
-      ap (λ (J : List Record). status J x) (sym (journal_some (λ (y : NodeOf D). y.journal) shards k s at) ∙ ap (λ (n : ℕ). journal_there (λ (y : NodeOf D). y.journal) shards n) there)
+      ap (λ (J : List Record). status J x) (sym (journal_some (λ (y : NodeOf D). y.journal) shards k s at)
+      ∙ ap (λ (n : ℕ). journal_there (λ (y : NodeOf D). y.journal) shards n) there)
 
   -- where there is none, nothing is known of it
   pub status_past : length shards ≤ k → Absent ≡ status_among shards x
   status_past past =
-      ap (λ (J : List Record). status J x) (sym (journal_none (λ (y : NodeOf D). y.journal) shards k (slice_get_past shards k past)) ∙ ap (λ (n : ℕ). journal_there (λ (y : NodeOf D). y.journal) shards n) there)
+      ap (λ (J : List Record). status J x) (sym (journal_none (λ (y : NodeOf D). y.journal) shards k (slice_get_past shards k past))
+      ∙ ap (λ (n : ℕ). journal_there (λ (y : NodeOf D). y.journal) shards n) there)

@@ -13,7 +13,8 @@ use Rattle.status_command.specs.Texts.{told_lines}
 abbrev pub Goes : Option Text → Option Text → Text → List Digest → List Status → Type 0
 Goes old mid whole xs ss = (a : Text) × Tells old (λ t. mid ≡ Some (t ++ a)) × (a ++ told_lines xs ss ≡ whole)
 
-module _ (old mid new : Option Text) (whole : Text) (xs rest : List Digest) (ss more : List Status) (x : Digest) (s : Status) (first : xs ≡ x ∷ rest) (second : ss ≡ s ∷ more) (goes : Goes old mid whole xs ss) where
+module _ (old mid new : Option Text) (whole : Text) (xs rest : List Digest) (ss more : List Status) (x : Digest) (s : Status) (first : xs ≡ x ∷ rest)
+    (second : ss ≡ s ∷ more) (goes : Goes old mid whole xs ss) where
   left : told_lines xs ss ≡ status_line x s ++ told_lines rest more
   left = ap (λ (l : List Digest). told_lines l ss) first ∙ ap (λ (l : List Status). told_lines (x ∷ rest) l) second
 
@@ -33,7 +34,8 @@ module _ (old mid new : Option Text) (whole : Text) (xs rest : List Digest) (ss 
       let (m, longer) = front_of_both (status_line x s) (told_lines rest more) n in (
         length goes.0 + m,
         front ∙ ap (λ (l : Text). Some l) (append_assoc t goes.0 (take n (status_line x s)))
-            ∙ ap (λ (l : Text). Some (t ++ l)) (ap (λ (l : Text). goes.0 ++ l) longer ∙ front_behind goes.0 (status_line x s ++ told_lines rest more) m ∙ ap (take (length goes.0 + m)) whole_is),
+            ∙ ap (λ (l : Text). Some (t ++ l)) (ap (λ (l : Text). goes.0 ++ l) longer
+            ∙ front_behind goes.0 (status_line x s ++ told_lines rest more) m ∙ ap (take (length goes.0 + m)) whole_is),
       )
 
 no_lines : (xs : List Digest) (ss : List Status) → (length xs ≡ 0) ⊎ (length ss ≡ 0) → told_lines xs ss ≡ []
@@ -43,6 +45,7 @@ no_lines (x ∷ xs) (s ∷ ss) (inl none) = absurd (omega (arith, none))
 no_lines (x ∷ xs) (s ∷ ss) (inr none) = absurd (omega (arith, none))
 
 -- nothing is left
-pub lines_done : (old mid : Option Text) (whole : Text) (xs : List Digest) (ss : List Status) → (length xs ≡ 0) ⊎ (length ss ≡ 0) → Goes old mid whole xs ss → Tells old (λ t. mid ≡ Some (t ++ whole))
+pub lines_done : (old mid : Option Text) (whole : Text) (xs : List Digest) (ss : List Status) → (length xs ≡ 0) ⊎ (length ss ≡ 0)
+    → Goes old mid whole xs ss → Tells old (λ t. mid ≡ Some (t ++ whole))
 lines_done old mid whole xs ss none goes = λ t is.
     goes.1 t is ∙ ap (λ (l : Text). Some (t ++ l)) (sym (append-nil goes.0) ∙ ap (λ (l : Text). goes.0 ++ l) (sym (no_lines xs ss none)) ∙ goes.2)

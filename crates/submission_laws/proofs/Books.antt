@@ -1,5 +1,6 @@
 -- What a book has behind a fold: where its coins come from, how many they are, and what a mint's are worth.
-use Rattle.std.proofs.Common.{◌≡◌, inl, inr, ℕ, zero, suc, ◌+◌, ◌-◌, ◌<◌, ◌≤◌, Bool, true, false, cond, List, [], ◌∷◌, length, map, Option, Some, None, is_some, refl, sym, ap, ◌∙◌, subst, arith, sum_by, if◌then◌else◌}
+use Rattle.std.proofs.Common.{◌≡◌, inl, inr, ℕ, zero, suc, ◌+◌, ◌-◌, ◌<◌, ◌≤◌, Bool, true, false, cond, List, [], ◌∷◌, length, map, Option, Some}
+use Rattle.std.proofs.Common.{None, is_some, refl, sym, ap, ◌∙◌, subst, arith, sum_by, if◌then◌else◌}
 use Rattle.std.proofs.lemmas.List.Sums.{sum_by-cons}
 use Rattle.std.specs.FinMap as book
 use Rattle.std.specs.FinMap.Entries.{find as find_entry}
@@ -43,7 +44,8 @@ module _ (Named : Coin → Type 0) where
 
   put_from : (cs : List Coin) (b : Book) → ((c : Coin) → In c cs → Named c) → AllFrom Named b → AllFrom Named (put_all b cs)
   put_from [] b named from = from
-  put_from (c ∷ cs) b named from = put_from cs (book.insert b (key c.point) c.output) (λ d h. named d (inr h)) (inserted b c (named c (inl refl)) from)
+  put_from (c ∷ cs) b named from = put_from cs (book.insert b (key c.point) c.output) (λ d h. named d (inr h))
+      (inserted b c (named c (inl refl)) from)
 
   -- where coins are taken out
   taken_from : (b : Book) (c : Coin) (r : Option Output) (rest : Book) → AllFrom Named b → taken b c r ≡ Some rest → AllFrom Named rest
@@ -70,33 +72,43 @@ module _ (Named : Coin → Type 0) where
   same_book : (a d : Book) → Some a ≡ Some d → a ≡ d
   same_book a d e = cc
 
-  took : (cs : List Coin) (rest : Book) (r : Option Book) → ((d : Book) → r ≡ Some d → take_all (Some d) cs ≡ Some rest → AllFrom Named rest) → take_all r cs ≡ Some rest → AllFrom Named rest
+  took : (cs : List Coin) (rest : Book) (r : Option Book) → ((d : Book) → r ≡ Some d → take_all (Some d) cs ≡ Some rest → AllFrom Named rest)
+      → take_all r cs ≡ Some rest → AllFrom Named rest
   took cs rest None go e = absurd (no_more rest cs e)
   took cs rest (Some d) go e = go d refl e
 
   take_from : (cs : List Coin) (b rest : Book) → AllFrom Named b → take_all (Some b) cs ≡ Some rest → AllFrom Named rest
   take_from [] b rest from e = subst (AllFrom Named) (same_book b rest e) from
-  take_from (c ∷ cs) b rest from e = took cs rest (take_out b c) (λ d f g. take_from cs d rest (taken_from b c (book.get b (key c.point)) d from f) g) e
+  take_from (c ∷ cs) b rest from e = took cs rest (take_out b c)
+      (λ d f g. take_from cs d rest (taken_from b c (book.get b (key c.point)) d from f) g) e
 
-  spent_from : (b rest : Book) (t : FullTx) → ((c : Coin) → In c (tx_coins t) → Named c) → AllFrom Named b → spend b t ≡ Some rest → AllFrom Named rest
+  spent_from : (b rest : Book) (t : FullTx) → ((c : Coin) → In c (tx_coins t) → Named c) → AllFrom Named b → spend b t ≡ Some rest
+      → AllFrom Named rest
   spent_from b rest t named from e = by_taken (take_all (Some b) t.inputs) refl e
     where
       by_taken : (r : Option Book) → take_all (Some b) t.inputs ≡ r → spend_from r t ≡ Some rest → AllFrom Named rest
       by_taken None f g = absurd (let z : None ≡ Some rest = g in cc)
-      by_taken (Some d) f g = subst (AllFrom Named) (same_book (put_all d (tx_coins t)) rest g) (put_from (tx_coins t) d named (take_from t.inputs b d from f))
+      by_taken (Some d) f g = subst (AllFrom Named) (same_book (put_all d (tx_coins t)) rest g)
+          (put_from (tx_coins t) d named (take_from t.inputs b d from f))
 
-  folded : (ts : List FullTx) (rest : Book) (r : Option Book) → ((d : Book) → r ≡ Some d → fold_txs (Some d) ts ≡ Some rest → AllFrom Named rest) → fold_txs r ts ≡ Some rest → AllFrom Named rest
+  folded : (ts : List FullTx) (rest : Book) (r : Option Book) → ((d : Book) → r ≡ Some d → fold_txs (Some d) ts ≡ Some rest → AllFrom Named rest)
+      → fold_txs r ts ≡ Some rest → AllFrom Named rest
   folded ts rest None go e = absurd (let z : None ≡ Some rest = e in cc)
   folded ts rest (Some d) go e = go d refl e
 
-  fold_from : (ts : List FullTx) (b rest : Book) → ((t : FullTx) → In t ts → (c : Coin) → In c (tx_coins t) → Named c) → AllFrom Named b → fold_txs (Some b) ts ≡ Some rest → AllFrom Named rest
+  fold_from : (ts : List FullTx) (b rest : Book) → ((t : FullTx) → In t ts → (c : Coin) → In c (tx_coins t) → Named c) → AllFrom Named b
+      → fold_txs (Some b) ts ≡ Some rest → AllFrom Named rest
   fold_from [] b rest named from e = subst (AllFrom Named) (same_book b rest e) from
-  fold_from (t ∷ ts) b rest named from e = folded ts rest (spend b t) (λ d f g. fold_from ts d rest (λ u h. named u (inr h)) (spent_from b d t (named t (inl refl)) from f) g) e
+  fold_from (t ∷ ts) b rest named from e = folded ts rest (spend b t)
+      (λ d f g. fold_from ts d rest (λ u h. named u (inr h)) (spent_from b d t (named t (inl refl)) from f) g) e
 
-  pub book_from : (mint : List Output) (ts : List FullTx) (rest : Book) → ((c : Coin) → In c (tx_coins (genesis_tx mint)) → Named c) → ((t : FullTx) → In t ts → (c : Coin) → In c (tx_coins t) → Named c)
+  pub book_from : (mint : List Output) (ts : List FullTx) (rest : Book) → ((c : Coin) → In c (tx_coins (genesis_tx mint)) → Named c)
+      → ((t : FullTx) → In t ts → (c : Coin) → In c (tx_coins t) → Named c)
       → fold_txs (Some (genesis_book mint)) ts ≡ Some rest → AllFrom Named rest
   book_from mint ts rest first named e =
-      fold_from ts (genesis_book mint) rest named (put_from (tx_coins (genesis_tx mint)) book.empty first (λ q o none. absurd (none_some o (sym (book.get-empty (slice_cmp nat_cmp) q) ∙ none)))) e
+      fold_from ts (genesis_book mint) rest named
+      (put_from (tx_coins (genesis_tx mint)) book.empty first
+      (λ q o none. absurd (none_some o (sym (book.get-empty (slice_cmp nat_cmp) q) ∙ none)))) e
 
 -- those that were handed in are among all
 found_in : (k : Compact) (ts : List FullTx) (t : FullTx) → first_with ts k ≡ Some t → In t ts
@@ -121,7 +133,8 @@ handed_in all (k ∷ ks) (u ∷ ts) are t (inr h) = handed_in all ks ts are.1 t 
 no_entries : (es : List (List ℕ × Output)) → ((q : List ℕ) → find_entry (slice_cmp nat_cmp) q es ≡ None) → length es ≡ 0
 no_entries [] none = refl
 no_entries (e ∷ es) none =
-    absurd (none_some e.1 (sym (none e.0) ∙ ap (λ r. cond (is_eq r) (Some e.1) (find_entry (slice_cmp nat_cmp) e.0 es)) (tied_itself nat_list_cmp_total e.0)))
+    absurd (none_some e.1 (sym (none e.0) ∙ ap (λ r. cond (is_eq r) (Some e.1) (find_entry (slice_cmp nat_cmp) e.0 es))
+    (tied_itself nat_list_cmp_total e.0)))
 
 no_keys : (b : Book) → ((q : List ℕ) (o : Output) → book.get b q ≡ Some o → ⊥) → book.len b ≡ 0
 no_keys b none = book.len-entries b ∙ no_entries (book.entries b) (λ q. sym (book.get-entries b q) ∙ nothing (book.get b q) (none q))
@@ -141,7 +154,8 @@ less_one b k = by_there (book.contains_key b k) (book.len-remove nat_list_cmp_to
 one_less : (b : Book) (k : List ℕ) (o : Output) → book.get b k ≡ Some o → book.len b ≡ suc (book.len (book.remove b k))
 one_less b k o there =
     let some = some_there (book.len b) refl in
-    let e : book.len (book.remove b k) ≡ book.len b - 1 = book.len-remove nat_list_cmp_total b k ∙ ap (λ r. cond (is_some r) (book.len b - 1) (book.len b)) there in
+    let e : book.len (book.remove b k) ≡ book.len b - 1 =
+    book.len-remove nat_list_cmp_total b k ∙ ap (λ r. cond (is_some r) (book.len b - 1) (book.len b)) there in
     omega (arith, e, some)
   where
     some_there : (m : ℕ) → book.len b ≡ m → 0 < m
@@ -164,7 +178,8 @@ no_more_entries (k ∷ qs) b all =
     among q o other (inr h) = h
 
 -- a book that has all of these keys has no fewer
-pub no_fewer_entries : (qs : List (List ℕ)) (b : Book) → Once qs → ((q : List ℕ) → In q qs → (o : Output) × (book.get b q ≡ Some o)) → length qs ≤ book.len b
+pub no_fewer_entries : (qs : List (List ℕ)) (b : Book) → Once qs → ((q : List ℕ) → In q qs → (o : Output) × (book.get b q ≡ Some o))
+    → length qs ≤ book.len b
 no_fewer_entries [] b once all = omega arith
 no_fewer_entries (k ∷ qs) b once all =
     let there = all k (inl refl) in
@@ -177,13 +192,15 @@ no_fewer_entries (k ∷ qs) b once all =
 -- ---- what a mint's coins come to
 
 module _ (f : Output → ℕ) (id : List ℕ) where
-  put_total : (os : List Output) (k : ℕ) (b : Book) → ((i : ℕ) → k ≤ i → book.get b (i ∷ id) ≡ None) → total f (put_all b (made_coins id k os)) ≡ sum_out f os + total f b
+  put_total : (os : List Output) (k : ℕ) (b : Book) → ((i : ℕ) → k ≤ i → book.get b (i ∷ id) ≡ None)
+      → total f (put_all b (made_coins id k os)) ≡ sum_out f os + total f b
   put_total [] k b none = none_put b
     where
       none_put : (b : Book) → total f b ≡ sum_out f [] + total f b
       none_put b = omega arith
   put_total (o ∷ os) k b none =
-      let rest = put_total os (suc k) (book.insert b (k ∷ id) o) (λ i low. get-insert_other b (k ∷ id) o (i ∷ id) (λ e. apart i k low e) ∙ none i (omega (arith, low))) in
+      let rest = put_total os (suc k) (book.insert b (k ∷ id) o)
+      (λ i low. get-insert_other b (k ∷ id) o (i ∷ id) (λ e. apart i k low e) ∙ none i (omega (arith, low))) in
       let one = total-insert f b (k ∷ id) o (none k (omega arith)) in
       let sum = sum_by-cons f o os in
       omega (arith, rest, one, sum)
@@ -192,7 +209,9 @@ module _ (f : Output → ℕ) (id : List ℕ) where
       apart i k low e = let f : i ≡ k = cc in omega (arith, low, f)
 
 total_empty : (f : Output → ℕ) → total f book.empty ≡ 0
-total_empty f = ap (λ es. sum_by f (map (λ e. e.1) es)) (nothing (book.entries (book.empty {X = Output} {R = slice_cmp nat_cmp})) (sym (book.len-entries (book.empty {X = Output} {R = slice_cmp nat_cmp})) ∙ book.len-empty (slice_cmp nat_cmp) Output))
+total_empty f = ap (λ es. sum_by f (map (λ e. e.1) es))
+    (nothing (book.entries (book.empty {X = Output} {R = slice_cmp nat_cmp}))
+    (sym (book.len-entries (book.empty {X = Output} {R = slice_cmp nat_cmp})) ∙ book.len-empty (slice_cmp nat_cmp) Output))
   where
     nothing : (es : List (List ℕ × Output)) → length es ≡ 0 → es ≡ []
     nothing [] e = refl

@@ -44,7 +44,8 @@ same_file f g e = cc
 pub sound_at : (xs : List FullTx) (j : ℕ) (t : FullTx) → slice_get xs j ≡ Some t → All IsGood xs → IsSoundTx t (all_good (tx_id t))
 sound_at xs j t e all = subst (λ u. IsSoundTx u (all_good (tx_id u))) (get_or_from_slice_get xs j t t e) (all j t (slice_get_within xs j t e))
 
-module _ (K : Shape) (seed n : ℕ) (some : 0 < K.shards) (lanes : 0 < K.lanes) (some_lane : 0 < K.coordinators * K.lanes) (clean : Clean (mint_of seed n) (all_submissions seed n)) where
+module _ (K : Shape) (seed n : ℕ) (some : 0 < K.shards) (lanes : 0 < K.lanes) (some_lane : 0 < K.coordinators * K.lanes)
+    (clean : Clean (mint_of seed n) (all_submissions seed n)) where
   abbrev E : ℕ → List Record
   E = made_for K seed n
 
@@ -54,7 +55,8 @@ module _ (K : Shape) (seed n : ℕ) (some : 0 < K.shards) (lanes : 0 < K.lanes) 
   pub none_prepared : (b : Batch) → has_prepare K (made_for K seed n) b ≡ false
   none_prepared b =
       none_of 6 (made_for K seed n (home_of K b.lane))
-      (journal_first (home_of K b.lane) (first_rows K (minted (mint_of seed n))) (all_first K (minted (mint_of seed n)) (λ (k : Compact). Unit {0}) some)) b
+      (journal_first (home_of K b.lane) (first_rows K (minted (mint_of seed n)))
+      (all_first K (minted (mint_of seed n)) (λ (k : Compact). Unit {0}) some)) b
 
   -- a split of the file
   pub is_split : (j : ℕ) (t : FullTx) → slice_get (splits_of seed n) j ≡ Some t → (j < minted_of n) × (t ≡ split seed n j)
@@ -68,10 +70,12 @@ module _ (K : Shape) (seed n : ℕ) (some : 0 < K.shards) (lanes : 0 < K.lanes) 
       let s = is_split i u at in
       not_true (has (compact u).inputs x) (λ t.
       differs (mint_mint seed n clean i j s.0 low
-      (sym (one_in x (coin_hash (mint_coin seed n i)) (has_in x (coin_hash (mint_coin seed n i) ∷ []) (subst (λ v. has (compact v).inputs x ≡ true) s.1 t)))
+      (sym (one_in x (coin_hash (mint_coin seed n i))
+      (has_in x (coin_hash (mint_coin seed n i) ∷ []) (subst (λ v. has (compact v).inputs x ≡ true) s.1 t)))
       ∙ one_in x (coin_hash (mint_coin seed n j)) (has_in x (coin_hash (mint_coin seed n j) ∷ []) has_x))))
 
-  module _ (rest : List (List FullTx)) (Y : ℕ → List Record) (kept : KeptJournals K (mint_of seed n) (all_submissions seed n) Y) (waves : Waves K (sound_by all_good) (splits_of seed n ∷ rest) (made_for K seed n) Y) where
+  module _ (rest : List (List FullTx)) (Y : ℕ → List Record) (kept : KeptJournals K (mint_of seed n) (all_submissions seed n) Y)
+      (waves : Waves K (sound_by all_good) (splits_of seed n ∷ rest) (made_for K seed n) Y) where
     abbrev R : ℕ → List Record
     R = waves.0
 
@@ -99,23 +103,30 @@ module _ (K : Shape) (seed n : ℕ) (some : 0 < K.shards) (lanes : 0 < K.lanes) 
     mint_unspent : (i : ℕ) → i < minted_of n → IsUnspent K (made_for K seed n) (coin_hash (mint_coin seed n i))
     mint_unspent i low =
         let made : 0 < count (coin_hash (mint_coin seed n i)) (genesis_hashes (mint_of seed n))
-        = in_count (coin_hash (mint_coin seed n i)) (genesis_hashes (mint_of seed n)) (in_map coin_hash (mint_coin seed n i) (tx_coins (genesis_tx (mint_of seed n))) (in_mint seed n i low)) in
-        is_unspent K (mint_of seed n) (all_submissions seed n) clean some lanes [] tt idle_first (coin_hash (mint_coin seed n i)) (omega (arith, made))
-        (ap (λ ks. count (coin_hash (mint_coin seed n i)) (all_inputs ks)) (no_committed (first_rows K (minted (mint_of seed n))) (all_first K (minted (mint_of seed n)) (λ (k : Compact). Unit {0}) some)))
+        = in_count (coin_hash (mint_coin seed n i)) (genesis_hashes (mint_of seed n))
+        (in_map coin_hash (mint_coin seed n i) (tx_coins (genesis_tx (mint_of seed n))) (in_mint seed n i low)) in
+        is_unspent K (mint_of seed n) (all_submissions seed n) clean some lanes [] tt idle_first (coin_hash (mint_coin seed n i))
+        (omega (arith, made))
+        (ap (λ ks. count (coin_hash (mint_coin seed n i)) (all_inputs ks))
+        (no_committed (first_rows K (minted (mint_of seed n))) (all_first K (minted (mint_of seed n)) (λ (k : Compact). Unit {0}) some)))
 
-    pub split_confirmed : (j : ℕ) (t : FullTx) (it : IsSent all_good (splits_of seed n ∷ rest) 0 j t) → IsSubmissionConfirmed K all_good (splits_of seed n ∷ rest) (made_for K seed n) Y 0 it.file j t
+    pub split_confirmed : (j : ℕ) (t : FullTx) (it : IsSent all_good (splits_of seed n ∷ rest) 0 j t)
+        → IsSubmissionConfirmed K all_good (splits_of seed n ∷ rest) (made_for K seed n) Y 0 it.file j t
     split_confirmed j t it =
         let file : splits_of seed n ≡ it.file = same_file (splits_of seed n) it.file it.file_is in
         let s : (j < minted_of n) × (t ≡ split seed n j) = is_split j t (subst (λ f. slice_get f j ≡ Some t) (sym file) it.tx_is) in
-        free_confirmed_law K (mint_of seed n) (all_submissions seed n) all_good (splits_of seed n ∷ rest) (made_for K seed n) Y some some_lane (kept_first (all_submissions seed n)) kept 0 j t it (made_for K seed n) first_begins
+        free_confirmed_law K (mint_of seed n) (all_submissions seed n) all_good (splits_of seed n ∷ rest) (made_for K seed n) Y some some_lane
+        (kept_first (all_submissions seed n)) kept 0 j t it (made_for K seed n) first_begins
         (λ x has_x.
         subst (λ y. IsUnspent K (made_for K seed n) y)
-        (sym (one_in x (coin_hash (mint_coin seed n j)) (has_in x (coin_hash (mint_coin seed n j) ∷ []) (subst (λ v. has (compact v).inputs x ≡ true) s.1 has_x))))
+        (sym (one_in x (coin_hash (mint_coin seed n j))
+        (has_in x (coin_hash (mint_coin seed n j) ∷ []) (subst (λ v. has (compact v).inputs x ≡ true) s.1 has_x))))
         (mint_unspent j s.0))
         (subst (λ f. IsUncontended all_good f j t) file (subst (λ v. IsUncontended all_good (splits_of seed n) j v) (sym s.1) (splits_apart j s.0)))
 
   -- each of them is sent
   pub split_sent : (rest : List (List FullTx)) (j : ℕ) → j < minted_of n → IsSent all_good (splits_of seed n ∷ rest) 0 j (split seed n j)
   split_sent rest j low =
-      let at : slice_get (splits_of seed n) j ≡ Some (split seed n j) = get_range (split_of seed n (genesis_id (mint_of seed n))) (minted_of n) 0 j low ∙ ap (λ i. Some (split seed n i)) (from_zero j) in
+      let at : slice_get (splits_of seed n) j ≡ Some (split seed n j) =
+      get_range (split_of seed n (genesis_id (mint_of seed n))) (minted_of n) 0 j low ∙ ap (λ i. Some (split seed n i)) (from_zero j) in
       record { file = splits_of seed n; file_is = refl; tx_is = at; sound = sound_at (splits_of seed n) j (split seed n j) at (splits_sound seed n) }

@@ -1,5 +1,6 @@
 -- A sound submission that nothing contends with is confirmed, at its turn among all.
-use Rattle.std.proofs.Common.{◌≡◌, ◌≢◌, ◌⊎◌, inl, inr, ℕ, zero, suc, ◌+◌, ◌*◌, ◌%◌, ◌<◌, Bool, true, List, [], ◌∷◌, ◌++◌, length, get_or, map, reverse, take, drop, Some, None, refl, sym, ap, ◌∙◌, subst, arith, append_assoc, append-nil}
+use Rattle.std.proofs.Common.{◌≡◌, ◌≢◌, ◌⊎◌, inl, inr, ℕ, zero, suc, ◌+◌, ◌*◌, ◌%◌, ◌<◌, Bool, true, List, [], ◌∷◌, ◌++◌, length, get_or, map}
+use Rattle.std.proofs.Common.{reverse, take, drop, Some, None, refl, sym, ap, ◌∙◌, subst, arith, append_assoc, append-nil}
 use Rattle.std.specs.Prelude.{slice_get, option_map}
 use Rattle.std.specs.List.{filter}
 use Rattle.std.proofs.lemmas.List.{length-map}
@@ -46,7 +47,8 @@ back_at [] vs i m e = ap (slice_get vs) (omega (arith, e))
 back_at (w ∷ us) vs i zero e = absurd (omega (arith, e))
 back_at (w ∷ us) vs i (suc m) e = back_at us vs i m (omega (arith, e))
 
-one_of_two : (us vs : List FullTx) (i : ℕ) (u : FullTx) → slice_get (us ++ vs) i ≡ Some u → (slice_get us i ≡ Some u) ⊎ ((h : ℕ) × (i ≡ length us + h) × (slice_get vs h ≡ Some u))
+one_of_two : (us vs : List FullTx) (i : ℕ) (u : FullTx) → slice_get (us ++ vs) i ≡ Some u
+    → (slice_get us i ≡ Some u) ⊎ ((h : ℕ) × (i ≡ length us + h) × (slice_get vs h ≡ Some u))
 one_of_two [] vs i u e = inr (i, omega arith, e)
 one_of_two (w ∷ us) vs zero u e = inl e
 one_of_two (w ∷ us) vs (suc i) u e = elim (one_of_two us vs i u e) [
@@ -70,7 +72,8 @@ module _ (verdicts : VerdictsOf) (file : List FullTx) (j : ℕ) (t : FullTx) (he
     )
     | inr (h, is, f) ↦ (
       length (take j file) + suc h,
-      subst (λ l. slice_get l (length (take j file) + suc h) ≡ Some u) (sym parts) (back_at (take j file) (t ∷ drop (suc j) file) (suc h) (length (take j file) + suc h) refl ∙ f),
+      subst (λ l. slice_get l (length (take j file) + suc h) ≡ Some u) (sym parts)
+          (back_at (take j file) (t ∷ drop (suc j) file) (suc h) (length (take j file) + suc h) refl ∙ f),
       λ same. omega (arith, same, low_place),
     )
   ]
@@ -78,16 +81,19 @@ module _ (verdicts : VerdictsOf) (file : List FullTx) (j : ℕ) (t : FullTx) (he
   pub alone : IsUncontended verdicts file j t → IsAlone (sound_by verdicts) t (take j file ++ drop (suc j) file)
   alone none i d low sound x has_x =
       let o = other_place i (get_or (take j file ++ drop (suc j) file) i d) (slice_get-get_or (take j file ++ drop (suc j) file) i d low) in
-      none o.0 (get_or (take j file ++ drop (suc j) file) i d) o.1 o.2 ((is_sound_law verdicts (get_or (take j file ++ drop (suc j) file) i d)).0 sound) x has_x
+      none o.0 (get_or (take j file ++ drop (suc j) file) i d) o.1 o.2
+      ((is_sound_law verdicts (get_or (take j file ++ drop (suc j) file) i d)).0 sound) x has_x
 
-module _ (K : Shape) (mint : List Output) (submissions : List FullTx) (verdicts : VerdictsOf) (files : List (List FullTx)) (some : 0 < K.shards) (some_lane : 0 < K.coordinators * K.lanes)
+module _ (K : Shape) (mint : List Output) (submissions : List FullTx) (verdicts : VerdictsOf) (files : List (List FullTx)) (some : 0 < K.shards)
+    (some_lane : 0 < K.coordinators * K.lanes)
     (E X : ℕ → List Record) (kept : KeptJournals K mint submissions E) (kept' : KeptJournals K mint submissions X) where
   abbrev sound : FullTx → Bool
   sound = sound_by verdicts
 
   -- what was open is brought to its end without a new Prepare
   abbrev Opens : (ℕ → List Record) → (ℕ → List Record) → Type 0
-  Opens I Y = (R : ℕ → List Record) → IsResumed K I R → ((n : ℕ) → IsEnd (R n) (Y n)) → (lane : ℕ) (more : List Record) → R (home_of K lane) ≡ more ++ I (home_of K lane) → told_in lane more ≡ []
+  Opens I Y = (R : ℕ → List Record) → IsResumed K I R → ((n : ℕ) → IsEnd (R n) (Y n)) → (lane : ℕ) (more : List Record)
+      → R (home_of K lane) ≡ more ++ I (home_of K lane) → told_in lane more ≡ []
 
   abbrev journals_of : List Row → ℕ → List Record
   journals_of later n = journal n (later ++ first_rows K (minted mint))
@@ -96,8 +102,10 @@ module _ (K : Shape) (mint : List Output) (submissions : List FullTx) (verdicts 
   opened_none =
       let by_rows : Opens (journals_of kept.later) (journals_of kept'.later)
       = none_told K (minted mint) (IsProperCompact submissions) some kept.later kept'.later
-      (steady K (minted mint) (IsProperCompact submissions) kept.later kept.kept) (steady K (minted mint) (IsProperCompact submissions) kept'.later kept'.kept) in
-      let by_entry : Opens E (journals_of kept'.later) = subst (λ I. Opens I (journals_of kept'.later)) (λ i n. kept.history.journals_are n i) by_rows in
+      (steady K (minted mint) (IsProperCompact submissions) kept.later kept.kept)
+      (steady K (minted mint) (IsProperCompact submissions) kept'.later kept'.kept) in
+      let by_entry : Opens E (journals_of kept'.later) =
+      subst (λ I. Opens I (journals_of kept'.later)) (λ i n. kept.history.journals_are n i) by_rows in
       subst (λ Y. Opens E Y) (λ i n. kept'.history.journals_are n i) by_entry
 
   module _ (k j : ℕ) (t : FullTx) (it : IsSent verdicts files k j t) (M : ℕ → List Record) (begins : BeginsWave K (sound_by verdicts) files k E X M)
@@ -121,7 +129,8 @@ module _ (K : Shape) (mint : List Output) (submissions : List FullTx) (verdicts 
     lane_is = ap (λ n. n % (K.coordinators * K.lanes)) long
 
     grows : (n : ℕ) → IsEnd (R n) (X n)
-    grows n = end_trans (R n) (M n) (X n) (files_grow K (sound_by verdicts) (take k files) R M begins.before n) (files_grow K (sound_by verdicts) (drop k files) M X begins.behind n)
+    grows n = end_trans (R n) (M n) (X n) (files_grow K (sound_by verdicts) (take k files) R M begins.before n)
+        (files_grow K (sound_by verdicts) (drop k files) M X begins.behind n)
 
     abbrev H : ℕ
     H = home_of K (lane_behind K (take j it.file))
@@ -129,42 +138,59 @@ module _ (K : Shape) (mint : List Output) (submissions : List FullTx) (verdicts 
     abbrev mine : List Record
     mine = (grows (home_of K (lane_behind K (take j it.file)))).0
 
-    won : IsWonAt (lane_behind K (take j it.file)) (length (sent_of_all K (sound_by verdicts) (take k files) (lane_behind K (take j it.file))) + sound_behind K (sound_by verdicts) (take j it.file)) mine
+    won : IsWonAt (lane_behind K (take j it.file))
+        (length (sent_of_all K (sound_by verdicts) (take k files) (lane_behind K (take j it.file)))
+        + sound_behind K (sound_by verdicts) (take j it.file)) mine
         (X (home_of K (lane_behind K (take j it.file))))
     won =
-        free_run_law K mint submissions (sound_by verdicts) (take k files) (drop (suc k) files) (take j it.file) t (drop (suc j) it.file) R M next.0 X mine some some_lane
+        free_run_law K mint submissions (sound_by verdicts) (take k files) (drop (suc k) files) (take j it.file) t (drop (suc j) it.file) R M next.0
+        X mine some some_lane
         (between_law K mint submissions (sound_by verdicts) files k E X M some kept kept' begins)
         (between_law K mint submissions (sound_by verdicts) files (suc k) E X next.0 some kept kept' next.2)
         kept' begins.before (subst (λ f. IsFileRun K (sent_to K (sound_by verdicts) f) M next.0) parted next.1) next.2.behind
-        (grows (home_of K (lane_behind K (take j it.file)))).1 ((is_sound_law verdicts t).1 it.sound) unspent (alone verdicts it.file j t it.tx_is free)
+        (grows (home_of K (lane_behind K (take j it.file)))).1 ((is_sound_law verdicts t).1 it.sound) unspent
+        (alone verdicts it.file j t it.tx_is free)
 
     abbrev opened : List Record
     opened = (begins.is_resumed.adds.grows (home_of K (lane_behind K (take j it.file)))).0
 
     whole : X (home_of K (lane_behind K (take j it.file))) ≡ (mine ++ opened) ++ E (home_of K (lane_behind K (take j it.file)))
     whole =
-        (grows (home_of K (lane_behind K (take j it.file)))).1 ∙ ap (λ l. mine ++ l) (begins.is_resumed.adds.grows (home_of K (lane_behind K (take j it.file)))).1
+        (grows (home_of K (lane_behind K (take j it.file)))).1
+        ∙ ap (λ l. mine ++ l) (begins.is_resumed.adds.grows (home_of K (lane_behind K (take j it.file)))).1
         ∙ sym (append_assoc mine opened (E (home_of K (lane_behind K (take j it.file)))))
 
-    same_sized : sized_onto (lane_behind K (take j it.file)) (added (E (home_of K (lane_behind K (take j it.file)))) (X (home_of K (lane_behind K (take j it.file))))) [] ≡ sized_onto (lane_behind K (take j it.file)) mine []
+    same_sized : sized_onto (lane_behind K (take j it.file))
+        (added (E (home_of K (lane_behind K (take j it.file)))) (X (home_of K (lane_behind K (take j it.file))))) []
+        ≡ sized_onto (lane_behind K (take j it.file)) mine []
     same_sized =
-        ap (λ m. sized_onto (lane_behind K (take j it.file)) m []) (added_is (E (home_of K (lane_behind K (take j it.file)))) (X (home_of K (lane_behind K (take j it.file)))) (mine ++ opened) whole)
+        ap (λ m. sized_onto (lane_behind K (take j it.file)) m [])
+        (added_is (E (home_of K (lane_behind K (take j it.file)))) (X (home_of K (lane_behind K (take j it.file)))) (mine ++ opened) whole)
         ∙ sized_told (lane_behind K (take j it.file)) (mine ++ opened) []
         ∙ ap (λ T. map size_told (reverse T) ++ []) (told_parts (lane_behind K (take j it.file)) mine opened
-        ∙ ap (λ l. told_in (lane_behind K (take j it.file)) mine ++ l) (opened_none R begins.is_resumed grows (lane_behind K (take j it.file)) opened (begins.is_resumed.adds.grows (home_of K (lane_behind K (take j it.file)))).1)
+        ∙ ap (λ l. told_in (lane_behind K (take j it.file)) mine ++ l)
+        (opened_none R begins.is_resumed grows (lane_behind K (take j it.file)) opened
+        (begins.is_resumed.adds.grows (home_of K (lane_behind K (take j it.file)))).1)
         ∙ append-nil (told_in (lane_behind K (take j it.file)) mine))
         ∙ sym (sized_told (lane_behind K (take j it.file)) mine [])
 
-    turn_is : length (sent_of_all K (sound_by verdicts) (take k files) (lane_behind K (take j it.file))) + sound_behind K (sound_by verdicts) (take j it.file) ≡ turn K (sound_by verdicts) (take k files) it.file j
+    turn_is : length (sent_of_all K (sound_by verdicts) (take k files) (lane_behind K (take j it.file)))
+        + sound_behind K (sound_by verdicts) (take j it.file) ≡ turn K (sound_by verdicts) (take k files) it.file j
     turn_is =
-        ap (λ n. n + sound_behind K (sound_by verdicts) (take j it.file)) (sent_many K (sound_by verdicts) (take k files) (lane_behind K (take j it.file)))
-        ∙ ap (λ n. sent_before K (sound_by verdicts) (take k files) (lane_behind K (take j it.file)) + n) (sym (length-map (filter (sound_by verdicts) (share (K.coordinators * K.lanes) (lane_behind K (take j it.file)) 0 (take j it.file))) compact))
+        ap (λ n. n + sound_behind K (sound_by verdicts) (take j it.file))
+        (sent_many K (sound_by verdicts) (take k files) (lane_behind K (take j it.file)))
+        ∙ ap (λ n. sent_before K (sound_by verdicts) (take k files) (lane_behind K (take j it.file)) + n)
+        (sym (length-map (filter (sound_by verdicts) (share (K.coordinators * K.lanes) (lane_behind K (take j it.file)) 0 (take j it.file)))
+        compact))
         ∙ ap (λ l. sent_before K (sound_by verdicts) (take k files) l + length (sent_to K (sound_by verdicts) (take j it.file) l)) lane_is
 
-    decided_here : decided_at K E X (lane_behind K (take j it.file)) (turn K (sound_by verdicts) (take k files) it.file j) ≡ Some (won.place.batch, Won)
+    decided_here : decided_at K E X (lane_behind K (take j it.file)) (turn K (sound_by verdicts) (take k files) it.file j)
+        ≡ Some (won.place.batch, Won)
     decided_here =
-        ap (λ S. decided_there (X (home_of K (lane_behind K (take j it.file)))) (place_of S (turn K (sound_by verdicts) (take k files) it.file j))) same_sized
-        ∙ ap (λ q. decided_there (X (home_of K (lane_behind K (take j it.file)))) (place_of (sized_onto (lane_behind K (take j it.file)) mine []) q)) (sym turn_is)
+        ap (λ S. decided_there (X (home_of K (lane_behind K (take j it.file)))) (place_of S (turn K (sound_by verdicts) (take k files) it.file j)))
+        same_sized
+        ∙ ap (λ q. decided_there (X (home_of K (lane_behind K (take j it.file)))) (place_of (sized_onto (lane_behind K (take j it.file)) mine []) q))
+        (sym turn_is)
         ∙ ap (decided_there (X (home_of K (lane_behind K (take j it.file))))) won.stands
         ∙ ap (option_map (λ o. (won.place.batch, o))) won.won
 

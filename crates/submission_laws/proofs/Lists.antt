@@ -47,4 +47,5 @@ tx_low (a ∷ A) (suc q) c e = let h = tx_low A q c e in omega (arith, h)
 pub added_is : (I J more : List Record) → J ≡ more ++ I → added I J ≡ more
 added_is I J more e =
     let long : length J - length I ≡ length more = (let l = ap length e in let a = length-append more I in omega (arith, l, a)) in
-    ap (λ n. take n J) long ∙ ap (take (length more)) e ∙ take-append-le (length more) more I (omega arith) ∙ take_all (length more) more (omega arith)
+    ap (λ n. take n J) long ∙ ap (take (length more)) e ∙ take-append-le (length more) more I (omega arith)
+    ∙ take_all (length more) more (omega arith)

@@ -1,5 +1,6 @@
 -- All outputs of a workload are money: its transactions issue nothing and redeem nothing.
-use Rattle.std.proofs.Common.{◌≡◌, ℕ, ◌+◌, ◌-◌, ◌*◌, ◌/◌, Bool, true, false, List, [], ◌∷◌, map, take, replicate, refl, ap, sym, ◌∙◌, inl, inr, arith, sum_by}
+use Rattle.std.proofs.Common.{◌≡◌, ℕ, ◌+◌, ◌-◌, ◌*◌, ◌/◌, Bool, true, false, List, [], ◌∷◌, map, take, replicate, refl, ap, sym, ◌∙◌, inl, inr, arith}
+use Rattle.std.proofs.Common.{sum_by}
 use Rattle.std.specs.Prelude.{slice_index, nat_eq, if◌then◌else◌}
 use Rattle.std.specs.List.{starts_with, range_with_len}
 use Rattle.std.proofs.lemmas.Slice.Eq.{bytes_eq-Decides}
@@ -10,7 +11,8 @@ use Rattle.cbdc_types.specs.declared.tx.Kind.{Kind}
 use Rattle.cbdc_types.specs.declared.tx.Kind.TheVariants.{Permit, Burn, Money}
 use Rattle.cbdc_model.specs.Records.{Digest}
 use Rattle.cbdc_model.specs.Coins.{Input, Output, FullTx, tx_id}
-use Rattle.cbdc_model.specs.Money.{if_money, if_permit, if_burn, money_of, issuable_of, burnt_of, permits_of, sum_out, issued_by, redeemed_by, issued, redeemed}
+use Rattle.cbdc_model.specs.Money.{if_money, if_permit, if_burn, money_of, issuable_of, burnt_of, permits_of, sum_out, issued_by, redeemed_by, issued}
+use Rattle.cbdc_model.specs.Money.{redeemed}
 use Rattle.cbdc_model.specs.Clean.{value_out}
 use Rattle.ledger_laws.proofs.Members.{In}
 use Rattle.workload.specs.Generator.{program, coin, coin_value, low_half, high_half, mint_of, minted_of, split_of, join_by}
@@ -27,7 +29,8 @@ not_marked byte k some =
 pub is_money : (k v : ℕ) → kind_of (record { program = program k; value = v }) ≡ Money
 unfolding kind_of
 is_money k v =
-    ap (λ b. if b then Permit else if starts_with nat_eq (program k) (replicate 16 255) then Burn else Money) (not_marked 254 k (λ e. omega (arith, e)))
+    ap (λ b. if b then Permit else if starts_with nat_eq (program k) (replicate 16 255) then Burn else Money)
+    (not_marked 254 k (λ e. omega (arith, e)))
     ∙ ap (λ b. if b then Burn else Money) (not_marked 255 k (λ e. omega (arith, e)))
 
 one_sum : {A : Type 0} (f : A → ℕ) (a : A) → sum_by f (a ∷ []) ≡ f a
@@ -49,7 +52,11 @@ MovesNone t = (issued_by t ≡ 0) × (redeemed_by t ≡ 0)
 
 pub split_moves : (seed n i : ℕ) (genesis : Digest) → MovesNone (split_of seed n genesis i)
 split_moves seed n i genesis = (
-  omega (arith, one_sum (λ (c : Input). issuable_of c.output) (record { point = record { tx = genesis; index = i }; output = coin seed i }), no_permit (coin seed i) (coin_value seed i) (is_money i (coin_value seed i))),
+  omega (
+    arith,
+    one_sum (λ (c : Input). issuable_of c.output) (record { point = record { tx = genesis; index = i }; output = coin seed i }),
+    no_permit (coin seed i) (coin_value seed i) (is_money i (coin_value seed i)),
+  ),
   omega (
     arith,
     two_sum burnt_of (low_half seed n i) (high_half seed n i),
@@ -62,11 +69,16 @@ pub join_moves : (seed n i : ℕ) (split : Digest) → MovesNone (join_by seed n
 join_moves seed n i split = (
   omega (
     arith,
-    two_sum (λ (c : Input). issuable_of c.output) (record { point = record { tx = split; index = 0 }; output = low_half seed n i }) (record { point = record { tx = split; index = 1 }; output = high_half seed n i }),
+    two_sum (λ (c : Input). issuable_of c.output) (record { point = record { tx = split; index = 0 }; output = low_half seed n i })
+        (record { point = record { tx = split; index = 1 }; output = high_half seed n i }),
     no_permit (low_half seed n i) (coin_value seed i / 2) (is_money (n + 2 * i) (coin_value seed i / 2)),
     no_permit (high_half seed n i) (coin_value seed i - coin_value seed i / 2) (is_money (n + 2 * i + 1) (coin_value seed i - coin_value seed i / 2)),
   ),
-  omega (arith, one_sum burnt_of (record { program = program (3 * n + i); value = coin_value seed i }), no_burn (record { program = program (3 * n + i); value = coin_value seed i }) (is_money (3 * n + i) (coin_value seed i))),
+  omega (
+    arith,
+    one_sum burnt_of (record { program = program (3 * n + i); value = coin_value seed i }),
+    no_burn (record { program = program (3 * n + i); value = coin_value seed i }) (is_money (3 * n + i) (coin_value seed i)),
+  ),
 )
 
 pub none_issued : (ts : List FullTx) → ((t : FullTx) → In t ts → MovesNone t) → issued ts ≡ 0

@@ -34,7 +34,8 @@ use Rattle.workload.specs.Generator.{mint_of, minted_of, joined_of, splits_of, j
 use Rattle.submission_laws.specs.Files.{all_good, files_of, all_submissions, made_for}
 use Rattle.submission_laws.proofs.Ranges.{from_zero, get_range, got_range}
 use Rattle.submission_laws.proofs.Sound.{joins_sound}
-use Rattle.submission_laws.proofs.Coins.{split, join, mint_coin, low_coin, high_coin, of_splits, fewer, splits_clean, mint_low, mint_high, low_low, high_high, low_high}
+use Rattle.submission_laws.proofs.Coins.{split, join, mint_coin, low_coin, high_coin, of_splits, fewer, splits_clean, mint_low, mint_high, low_low}
+use Rattle.submission_laws.proofs.Coins.{high_high, low_high}
 use Rattle.submission_laws.proofs.Worlds.{OneOf, spender, each_passes, won_makes, is_unspent}
 use Rattle.submission_laws.proofs.Sets.{has_in}
 use Rattle.submission_laws.proofs.Committed.{is_committed}
@@ -66,11 +67,13 @@ zero_or (suc m) f = absurd (f (omega arith))
 -- ---- kept journals whose new Prepares have transactions of these alone are kept with these alone
 
 module _ (K : Shape) (mint : List Output) (all these : List FullTx) (some : 0 < K.shards) (J : ℕ → List Record) (kept : KeptJournals K mint all J)
-    (are : (n : ℕ) (newer rest : List Record) (stamp : ℕ) (b : Batch) (txs : List Compact) → J n ≡ newer ++ Prepare stamp b txs ∷ rest → IsEnd (first_of K (minted mint) n) rest → n ≡ home_of K b.lane → All (IsProperCompact these) txs) where
+    (are : (n : ℕ) (newer rest : List Record) (stamp : ℕ) (b : Batch) (txs : List Compact) → J n ≡ newer ++ Prepare stamp b txs ∷ rest
+    → IsEnd (first_of K (minted mint) n) rest → n ≡ home_of K b.lane → All (IsProperCompact these) txs) where
   lists : KeptLists K (minted mint) (IsProperCompact all) J
   lists = (local_law K mint all J some).0 kept
 
-  pass : (n : ℕ) (newer rest : List Record) (r : Record) → J n ≡ newer ++ r ∷ rest → IsEnd (first_of K (minted mint) n) rest → After (header_of K (minted mint).id n) rest r → TxsPass (IsProperCompact these) r
+  pass : (n : ℕ) (newer rest : List Record) (r : Record) → J n ≡ newer ++ r ∷ rest → IsEnd (first_of K (minted mint) n) rest
+      → After (header_of K (minted mint).id n) rest r → TxsPass (IsProperCompact these) r
   pass n newer rest (Prepare stamp b txs) e h after = are n newer rest stamp b txs e h after.1.1
   pass n newer rest other e h after = tt
 
@@ -84,8 +87,10 @@ each_at : (P : Compact → Type 0) (txs : List Compact) → ((i : ℕ) (c : Comp
 each_at P [] f = All-nil P
 each_at P (t ∷ txs) f = All-cons P t txs (f 0 t refl) (each_at P txs (λ i c e. f (suc i) c e))
 
-module _ (K : Shape) (seed n : ℕ) (some : 0 < K.shards) (lanes : 0 < K.lanes) (some_lane : 0 < K.coordinators * K.lanes) (clean : Clean (mint_of seed n) (all_submissions seed n))
-    (X : ℕ → List Record) (kept : KeptJournals K (mint_of seed n) (all_submissions seed n) X) (waves : Waves K (sound_by all_good) (files_of seed n) (made_for K seed n) X) where
+module _ (K : Shape) (seed n : ℕ) (some : 0 < K.shards) (lanes : 0 < K.lanes) (some_lane : 0 < K.coordinators * K.lanes)
+    (clean : Clean (mint_of seed n) (all_submissions seed n))
+    (X : ℕ → List Record) (kept : KeptJournals K (mint_of seed n) (all_submissions seed n) X)
+    (waves : Waves K (sound_by all_good) (files_of seed n) (made_for K seed n) X) where
   abbrev E : ℕ → List Record
   E = made_for K seed n
 
@@ -103,24 +108,28 @@ module _ (K : Shape) (seed n : ℕ) (some : 0 < K.shards) (lanes : 0 < K.lanes) 
   second_begins = record { resumed = waves.0; is_resumed = waves.1; before = (waves.2.0, waves.2.1, λ node. refl); behind = waves.2.2 }
 
   kept_mid : KeptJournals K (mint_of seed n) (all_submissions seed n) M
-  kept_mid = between_law K (mint_of seed n) (all_submissions seed n) (sound_by all_good) (files_of seed n) 1 (made_for K seed n) X M some (kept_first K seed n some lanes some_lane clean (all_submissions seed n)) kept second_begins
+  kept_mid = between_law K (mint_of seed n) (all_submissions seed n) (sound_by all_good) (files_of seed n) 1 (made_for K seed n) X M some
+      (kept_first K seed n some lanes some_lane clean (all_submissions seed n)) kept second_begins
 
   first_waves : Waves K (sound_by all_good) (splits_of seed n ∷ []) (made_for K seed n) M
   first_waves = (waves.0, waves.1, (waves.2.0, waves.2.1, λ node. refl))
 
   settled : AreSettled K all_good (splits_of seed n ∷ []) (made_for K seed n) M
-  settled = settled_law K (mint_of seed n) (all_submissions seed n) all_good (splits_of seed n ∷ []) (made_for K seed n) M some some_lane (kept_first K seed n some lanes some_lane clean (all_submissions seed n)) kept_mid first_waves
+  settled = settled_law K (mint_of seed n) (all_submissions seed n) all_good (splits_of seed n ∷ []) (made_for K seed n) M some some_lane
+      (kept_first K seed n some lanes some_lane clean (all_submissions seed n)) kept_mid first_waves
 
   idle_mid : AreIdle K M
   idle_mid = waves.2.1.idle
 
   -- only splits were prepared so far
-  module _ (node : ℕ) (newer rest : List Record) (stamp : ℕ) (b : Batch) (txs : List Compact) (e : M node ≡ newer ++ Prepare stamp b txs ∷ rest) (h : IsEnd (first_of K (minted (mint_of seed n)) node) rest) (home : node ≡ home_of K b.lane) where
+  module _ (node : ℕ) (newer rest : List Record) (stamp : ℕ) (b : Batch) (txs : List Compact) (e : M node ≡ newer ++ Prepare stamp b txs ∷ rest)
+      (h : IsEnd (first_of K (minted (mint_of seed n)) node) rest) (home : node ≡ home_of K b.lane) where
     found : txs_of (M (home_of K b.lane)) b ≡ txs
     found =
         let by_rows : record_of 6 (journal node (kept_mid.later ++ first_rows K (minted (mint_of seed n)))) b ≡ Some (Prepare stamp b txs)
         = found_at K (minted (mint_of seed n)) (IsProperCompact (all_submissions seed n)) some [] kept_mid.later tt
-        (steady K (minted (mint_of seed n)) (IsProperCompact (all_submissions seed n)) kept_mid.later kept_mid.kept) node 6 b newer rest (Prepare stamp b txs) (kept_mid.history.journals_are node ∙ e) h (test_itself 6 b) in
+        (steady K (minted (mint_of seed n)) (IsProperCompact (all_submissions seed n)) kept_mid.later kept_mid.kept) node 6 b newer rest
+        (Prepare stamp b txs) (kept_mid.history.journals_are node ∙ e) h (test_itself 6 b) in
         ap (λ m. txs_of (M m) b) (sym home) ∙ ap (λ L. txs_of L b) (sym (kept_mid.history.journals_are node)) ∙ ap txs_in by_rows
 
     of_split : (i : ℕ) (c : Compact) → tx_at txs i ≡ Some c → IsProperCompact (splits_of seed n) c
@@ -129,11 +138,16 @@ module _ (K : Shape) (seed n : ℕ) (some : 0 < K.shards) (lanes : 0 < K.lanes) 
         = record { new = none_prepared K seed n some lanes some_lane clean b; holds = ap (λ l. tx_at l i) found ∙ at } in
         by_first (settled.nothing_else (record { batch = b; at = i }) c it)
       where
-        by_first : (k : ℕ) × (j : ℕ) × (t : FullTx) × (it : IsSent all_good (splits_of seed n ∷ []) k j t) × (place_at K all_good (splits_of seed n ∷ []) (made_for K seed n) M k it.file j ≡ Some (record { batch = b; at = i })) × (c ≡ compact t)
+        by_first : (k : ℕ) × (j : ℕ) × (t : FullTx) × (it : IsSent all_good (splits_of seed n ∷ []) k j t)
+            × (place_at K all_good (splits_of seed n ∷ []) (made_for K seed n) M k it.file j ≡ Some (record { batch = b; at = i })) × (c ≡ compact t)
             → IsProperCompact (splits_of seed n) c
         by_first (zero, j, t, it, place, is) =
-            let file : splits_of seed n ≡ it.file = same_file (splits_of seed n) it.file it.file_is in
-            (t, contains_in (splits_of seed n) t (in_get (splits_of seed n) j t (subst (λ f. slice_get f j ≡ Some t) (sym file) it.tx_is)), sound_law t (all_good (tx_id t)) it.sound, sym is)
+            let file : splits_of seed n ≡ it.file = same_file (splits_of seed n) it.file it.file_is in (
+              t,
+              contains_in (splits_of seed n) t (in_get (splits_of seed n) j t (subst (λ f. slice_get f j ≡ Some t) (sym file) it.tx_is)),
+              sound_law t (all_good (tx_id t)) it.sound,
+              sym is,
+            )
         by_first (suc k, j, t, it, place, is) = absurd (no_file (splits_of seed n) it.file k it.file_is)
 
     only_splits : All (IsProperCompact (splits_of seed n)) txs
@@ -161,12 +175,14 @@ module _ (K : Shape) (seed n : ℕ) (some : 0 < K.shards) (lanes : 0 < K.lanes) 
 
     won : In (compact (split seed n j)) (won_of K (history_of K (mint_of seed n) kept_splits.later) its.place.batch)
     won =
-        is_committed K all_good (splits_of seed n ∷ []) (made_for K seed n) M (history_of K (mint_of seed n) kept_splits.later) 0 j (split seed n j) sent kept_splits.history.journals_are its
+        is_committed K all_good (splits_of seed n ∷ []) (made_for K seed n) M (history_of K (mint_of seed n) kept_splits.later) 0 j (split seed n j)
+        sent kept_splits.history.journals_are its
         (split_confirmed K seed n some lanes some_lane clean [] M kept_mid first_waves j (split seed n j) sent)
 
     made : 0 < count x (all_outputs (committed (history_of K (mint_of seed n) kept_splits.later)))
     made =
-        won_makes K (mint_of seed n) (splits_of seed n) (splits_clean seed n clean) some lanes kept_splits.later steady_splits its.place.batch (compact (split seed n j)) x won of_it
+        won_makes K (mint_of seed n) (splits_of seed n) (splits_clean seed n clean) some lanes kept_splits.later steady_splits its.place.batch
+        (compact (split seed n j)) x won of_it
 
     not_mint : (i : ℕ) → i < minted_of n → x ≡ coin_hash (mint_coin seed n i) → ⊥
     not_mint i low' e = elim (two_in x (coin_hash (low_coin seed n j)) (coin_hash (high_coin seed n j)) of_it) [
@@ -189,7 +205,8 @@ module _ (K : Shape) (seed n : ℕ) (some : 0 < K.shards) (lanes : 0 < K.lanes) 
     pub made_unspent : IsUnspent K M x
     made_unspent =
         ap (λ L. status L x) (sym (kept_splits.history.journals_are (shard_node K (shard_of K.shards x))))
-        ∙ is_unspent K (mint_of seed n) (splits_of seed n) (splits_clean seed n clean) some lanes kept_splits.later steady_splits idle_rows x (omega (arith, made)) unspent_there
+        ∙ is_unspent K (mint_of seed n) (splits_of seed n) (splits_clean seed n clean) some lanes kept_splits.later steady_splits idle_rows x
+        (omega (arith, made)) unspent_there
 
   -- ---- the joins
 
@@ -198,7 +215,9 @@ module _ (K : Shape) (seed n : ℕ) (some : 0 < K.shards) (lanes : 0 < K.lanes) 
       let r = got_range (join_of seed n (genesis_id (mint_of seed n))) (joined_of n) 0 j t e in
       (r.0, r.1 ∙ ap (join_of seed n (genesis_id (mint_of seed n))) (from_zero j))
 
-  one_of_pairs : (i j : ℕ) (x : Digest) → i < minted_of n → j < minted_of n → In x (coin_hash (low_coin seed n i) ∷ coin_hash (high_coin seed n i) ∷ []) → In x (coin_hash (low_coin seed n j) ∷ coin_hash (high_coin seed n j) ∷ []) → i ≡ j
+  one_of_pairs : (i j : ℕ) (x : Digest) → i < minted_of n → j < minted_of n
+      → In x (coin_hash (low_coin seed n i) ∷ coin_hash (high_coin seed n i) ∷ [])
+      → In x (coin_hash (low_coin seed n j) ∷ coin_hash (high_coin seed n j) ∷ []) → i ≡ j
   one_of_pairs i j x low low' h g = elim (two_in x (coin_hash (low_coin seed n i)) (coin_hash (high_coin seed n i)) h) [
     | inl a ↦ elim (two_in x (coin_hash (low_coin seed n j)) (coin_hash (high_coin seed n j)) g) [
       | inl b ↦ low_low seed n clean i j low low' (sym a ∙ b)
@@ -219,16 +238,20 @@ module _ (K : Shape) (seed n : ℕ) (some : 0 < K.shards) (lanes : 0 < K.lanes) 
       (has_in x (coin_hash (low_coin seed n i) ∷ coin_hash (high_coin seed n i) ∷ []) (subst (λ v. has (compact v).inputs x ≡ true) s.1 t))
       (has_in x (coin_hash (low_coin seed n j) ∷ coin_hash (high_coin seed n j) ∷ []) has_x)))
 
-  pub join_confirmed : (j : ℕ) (t : FullTx) (it : IsSent all_good (files_of seed n) 1 j t) → IsSubmissionConfirmed K all_good (files_of seed n) (made_for K seed n) X 1 it.file j t
+  pub join_confirmed : (j : ℕ) (t : FullTx) (it : IsSent all_good (files_of seed n) 1 j t)
+      → IsSubmissionConfirmed K all_good (files_of seed n) (made_for K seed n) X 1 it.file j t
   join_confirmed j t it =
       let file : joins_of seed n ≡ it.file = second_file (splits_of seed n) (joins_of seed n) it.file it.file_is in
       let s : (j < joined_of n) × (t ≡ join seed n j) = is_join j t (subst (λ f. slice_get f j ≡ Some t) (sym file) it.tx_is) in
       let few = fewer seed n in
-      free_confirmed_law K (mint_of seed n) (all_submissions seed n) all_good (files_of seed n) (made_for K seed n) X some some_lane (kept_first K seed n some lanes some_lane clean (all_submissions seed n)) kept 1 j t it M second_begins
-      (λ x has_x. made_unspent j (let a = s.0 in omega (arith, a, few)) x (has_in x (coin_hash (low_coin seed n j) ∷ coin_hash (high_coin seed n j) ∷ []) (subst (λ v. has (compact v).inputs x ≡ true) s.1 has_x)))
+      free_confirmed_law K (mint_of seed n) (all_submissions seed n) all_good (files_of seed n) (made_for K seed n) X some some_lane
+      (kept_first K seed n some lanes some_lane clean (all_submissions seed n)) kept 1 j t it M second_begins
+      (λ x has_x. made_unspent j (let a = s.0 in omega (arith, a, few)) x
+      (has_in x (coin_hash (low_coin seed n j) ∷ coin_hash (high_coin seed n j) ∷ []) (subst (λ v. has (compact v).inputs x ≡ true) s.1 has_x)))
       (subst (λ f. IsUncontended all_good f j t) file (subst (λ v. IsUncontended all_good (joins_of seed n) j v) (sym s.1) (joins_apart j s.0)))
 
   pub join_sent : (j : ℕ) → j < joined_of n → IsSent all_good (files_of seed n) 1 j (join seed n j)
   join_sent j low =
-      let at : slice_get (joins_of seed n) j ≡ Some (join seed n j) = get_range (join_of seed n (genesis_id (mint_of seed n))) (joined_of n) 0 j low ∙ ap (λ i. Some (join seed n i)) (from_zero j) in
+      let at : slice_get (joins_of seed n) j ≡ Some (join seed n j) =
+      get_range (join_of seed n (genesis_id (mint_of seed n))) (joined_of n) 0 j low ∙ ap (λ i. Some (join seed n i)) (from_zero j) in
       record { file = joins_of seed n; file_is = refl; tx_is = at; sound = sound_at (joins_of seed n) j (join seed n j) at (joins_sound seed n) }

@@ -1,5 +1,6 @@
 -- Lists in which nothing stands twice.
-use Rattle.std.proofs.Common.{◌≡◌, ◌⊎◌, inl, inr, ℕ, zero, suc, ◌+◌, ◌<◌, ◌≤◌, true, false, List, [], ◌∷◌, ◌++◌, length, map, refl, sym, ap, ◌∙◌, subst, arith}
+use Rattle.std.proofs.Common.{◌≡◌, ◌⊎◌, inl, inr, ℕ, zero, suc, ◌+◌, ◌<◌, ◌≤◌, true, false, List, [], ◌∷◌, ◌++◌, length, map, refl, sym, ap, ◌∙◌}
+use Rattle.std.proofs.Common.{subst, arith}
 use Rattle.std.specs.List.{range_with_len, IsDistinct, AllByRecursion}
 use Rattle.cbdc_model.specs.Records.{Digest, same_digest}
 use Rattle.cbdc_model.specs.Status.{has}
@@ -20,7 +21,8 @@ once_both (x ∷ xs) ys a b apart = (
   once_both xs ys a.1 b (λ z h g. apart z (inr h) g),
 )
 
-pub once_range : {A : Type 0} (f : ℕ → A) (m k top : ℕ) → k + m ≤ top → ((i j : ℕ) → i < top → j < top → f i ≡ f j → i ≡ j) → Once (map f (range_with_len k m))
+pub once_range : {A : Type 0} (f : ℕ → A) (m k top : ℕ) → k + m ≤ top → ((i j : ℕ) → i < top → j < top → f i ≡ f j → i ≡ j)
+    → Once (map f (range_with_len k m))
 once_range f zero k top le same = tt
 once_range f (suc m) k top le same = (
   λ h. (

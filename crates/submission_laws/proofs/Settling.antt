@@ -1,5 +1,6 @@
 -- Each sound submission of a run has its one place among the transactions of the new Prepares, and an outcome by the shards' replies.
-use Rattle.std.proofs.Common.{◌≡◌, ℕ, ◌*◌, ◌<◌, Bool, true, false, ◌==◌, if◌then◌else◌, List, [], ◌∷◌, ◌++◌, map, reverse, take, Option, Some, None, is_some, refl, sym, ap, ◌∙◌, subst, arith, append_assoc, append-nil, mod-lt}
+use Rattle.std.proofs.Common.{◌≡◌, ℕ, ◌*◌, ◌<◌, Bool, true, false, ◌==◌, if◌then◌else◌, List, [], ◌∷◌, ◌++◌, map, reverse, take, Option, Some, None}
+use Rattle.std.proofs.Common.{is_some, refl, sym, ap, ◌∙◌, subst, arith, append_assoc, append-nil, mod-lt}
 use Rattle.std.specs.Prelude.{option_map}
 use Rattle.cbdc_model.specs.Records.{Shape, Batch, Compact, Outcome, Record, Row, journal, record_of, txs_of, txs_in, lock_of, Prepare}
 use Rattle.cbdc_model.specs.Slots.{slot, Idle}
@@ -47,14 +48,18 @@ some_pair : (p q : Batch × Outcome) → Some p ≡ Some q → p ≡ q
 some_pair p q e = cc
 
 -- what is told of a sound submission is what is decided at its turn
-pub told_as : (K : Shape) (verdicts : VerdictsOf) (sound : FullTx → Bool) (E X : ℕ → List Record) (earlier : List (List FullTx)) (file : List FullTx) (j : ℕ) (t : FullTx) (b : Batch) (o : Outcome)
-    → IsSoundTx t (verdicts (tx_id t)) → decided_at K E X (lane_at K j) (turn K sound earlier file j) ≡ Some (b, o) → (r : Report) → IsReport K verdicts sound E X earlier file j t r → r ≡ Decided b o
+pub told_as : (K : Shape) (verdicts : VerdictsOf) (sound : FullTx → Bool) (E X : ℕ → List Record) (earlier : List (List FullTx)) (file : List FullTx)
+    (j : ℕ) (t : FullTx) (b : Batch) (o : Outcome)
+    → IsSoundTx t (verdicts (tx_id t)) → decided_at K E X (lane_at K j) (turn K sound earlier file j) ≡ Some (b, o) → (r : Report)
+    → IsReport K verdicts sound E X earlier file j t r → r ≡ Decided b o
 told_as K verdicts sound E X earlier file j t b o is_sound at (Refused why) first = absurd (is_sound why first.applies)
-told_as K verdicts sound E X earlier file j t b o is_sound at (Decided c q) is = let s = some_pair (c, q) (b, o) (sym is.1 ∙ at) in λ i. Decided (s i).0 (s i).1
+told_as K verdicts sound E X earlier file j t b o is_sound at (Decided c q) is = let s = some_pair (c, q) (b, o) (sym is.1 ∙ at) in
+    λ i. Decided (s i).0 (s i).1
 
 -- ---- what was open is brought to its end without a new Prepare
 
-module _ (K : Shape) (minting : Minted) (P : Compact → Type 0) (some : 0 < K.shards) (old new : List Row) (kept : Steady K minting P old) (kept' : Steady K minting P new) where
+module _ (K : Shape) (minting : Minted) (P : Compact → Type 0) (some : 0 < K.shards) (old new : List Row) (kept : Steady K minting P old)
+    (kept' : Steady K minting P new) where
   abbrev I : ℕ → List Record
   I n = journal n (old ++ first_rows K minting)
 
@@ -62,18 +67,24 @@ module _ (K : Shape) (minting : Minted) (P : Compact → Type 0) (some : 0 < K.s
   J n = journal n (new ++ first_rows K minting)
 
   module _ (R : ℕ → List Record) (resumed : IsResumed K I R) (grows : (n : ℕ) → IsEnd (R n) (J n)) (lane : ℕ) where
-    none_step : (r : Record) (rest newer : List Record) (T : List Told) → R (home_of K lane) ≡ newer ++ r ∷ (rest ++ I (home_of K lane)) → T ≡ [] → told_before lane r T ≡ []
-    none_step (Prepare stamp b txs) rest newer T e none = elim (b.lane == lane) as (λ c. (b.lane == lane) ≡ c → (if c then (b, txs) ∷ T else T) ≡ []) [
-      | true ↦ λ own.
-          let k = resumed.adds.each (home_of K lane) newer (rest ++ I (home_of K lane)) (Prepare stamp b txs) e (rest, refl) in
-          let g = grows (home_of K lane) in
-          let same : k.0 ≡ b = one_batch k.0 b (Prepare stamp b txs) k.1 (same_batch_self b) in
-          let there : is_some (record_of 6 (I (home_of K lane)) b) ≡ true
-          = subst (λ m. is_some (record_of 6 (I (home_of K m)) b) ≡ true) (lane_is b.lane lane own) (subst (λ c. has_prepare K I c ≡ true) same k.2.0) in
-          absurd (never_twice K minting P some old new kept kept' (home_of K lane) (g.0 ++ newer) (rest ++ I (home_of K lane)) (Prepare stamp b txs) 6 b
-          (g.1 ∙ ap (λ l. g.0 ++ l) e ∙ sym (append_assoc g.0 newer (Prepare stamp b txs ∷ (rest ++ I (home_of K lane))))) (rest, refl) (test_itself 6 b) (still_found rest (I (home_of K lane)) 6 b there))
-      | false ↦ λ own. none
-    ] refl
+    none_step : (r : Record) (rest newer : List Record) (T : List Told) → R (home_of K lane) ≡ newer ++ r ∷ (rest ++ I (home_of K lane)) → T ≡ []
+        → told_before lane r T ≡ []
+    none_step (Prepare stamp b txs) rest newer T e none =
+        elim (b.lane == lane) as (λ c. (b.lane == lane) ≡ c → (if c then (b, txs) ∷ T else T) ≡ []) [
+          | true ↦ λ own.
+              let k = resumed.adds.each (home_of K lane) newer (rest ++ I (home_of K lane)) (Prepare stamp b txs) e (rest, refl) in
+              let g = grows (home_of K lane) in
+              let same : k.0 ≡ b = one_batch k.0 b (Prepare stamp b txs) k.1 (same_batch_self b) in
+              let there : is_some (record_of 6 (I (home_of K lane)) b) ≡ true
+              = subst (λ m. is_some (record_of 6 (I (home_of K m)) b) ≡ true) (lane_is b.lane lane own)
+              (subst (λ c. has_prepare K I c ≡ true) same k.2.0) in
+              absurd (never_twice K minting P some old new kept kept' (home_of K lane) (g.0 ++ newer) (rest ++ I (home_of K lane))
+              (Prepare stamp b txs)
+              6 b
+              (g.1 ∙ ap (λ l. g.0 ++ l) e ∙ sym (append_assoc g.0 newer (Prepare stamp b txs ∷ (rest ++ I (home_of K lane))))) (rest, refl)
+              (test_itself 6 b) (still_found rest (I (home_of K lane)) 6 b there))
+          | false ↦ λ own. none
+        ] refl
       where
         lane_is : (l m : ℕ) → (l == m) ≡ true → l ≡ m
         lane_is l m h = grind (arith, h)
@@ -82,13 +93,16 @@ module _ (K : Shape) (minting : Minted) (P : Compact → Type 0) (some : 0 < K.s
     none_from : (rest newer : List Record) → R (home_of K lane) ≡ newer ++ (rest ++ I (home_of K lane)) → told_in lane rest ≡ []
     none_from [] newer e = refl
     none_from (r ∷ rest) newer e =
-        none_step r rest newer (told_in lane rest) e (none_from rest (newer ++ r ∷ []) (e ∙ sym (append_assoc newer (r ∷ []) (rest ++ I (home_of K lane)))))
+        none_step r rest newer (told_in lane rest) e
+        (none_from rest (newer ++ r ∷ []) (e ∙ sym (append_assoc newer (r ∷ []) (rest ++ I (home_of K lane)))))
 
     pub none_told : (more : List Record) → R (home_of K lane) ≡ more ++ I (home_of K lane) → told_in lane more ≡ []
     none_told more e = none_from more [] e
 
-module _ (K : Shape) (mint : List Output) (submissions : List FullTx) (verdicts : VerdictsOf) (files : List (List FullTx)) (some : 0 < K.shards) (some_lane : 0 < K.coordinators * K.lanes)
-    (old new : List Row) (kept : IsKept K mint submissions old) (kept' : IsKept K mint submissions new) (ordered : IsOrdered old) (ordered' : IsOrdered new) where
+module _ (K : Shape) (mint : List Output) (submissions : List FullTx) (verdicts : VerdictsOf) (files : List (List FullTx)) (some : 0 < K.shards)
+    (some_lane : 0 < K.coordinators * K.lanes)
+    (old new : List Row) (kept : IsKept K mint submissions old) (kept' : IsKept K mint submissions new) (ordered : IsOrdered old)
+    (ordered' : IsOrdered new) where
   abbrev E : ℕ → List Record
   E n = journal n (old ++ first_rows K (minted mint))
 
@@ -116,7 +130,8 @@ module _ (K : Shape) (mint : List Output) (submissions : List FullTx) (verdicts 
 
     kept_mid : KeptJournals K mint submissions R
     kept_mid =
-        between_law K mint submissions sound files 0 E X R some kept_old kept_new (record { resumed = waves.0; is_resumed = waves.1; before = λ n. refl; behind = waves.2 })
+        between_law K mint submissions sound files 0 E X R some kept_old kept_new
+        (record { resumed = waves.0; is_resumed = waves.1; before = λ n. refl; behind = waves.2 })
 
     grows : (n : ℕ) → IsEnd (R n) (X n)
     grows n = files_grow K sound files R X waves.2 n
@@ -133,23 +148,27 @@ module _ (K : Shape) (mint : List Output) (submissions : List FullTx) (verdicts 
 
       -- all that came to the lane's coordinator
       whole : X (home_of K lane) ≡ (mine ++ opened) ++ E (home_of K lane)
-      whole = (grows (home_of K lane)).1 ∙ ap (λ l. mine ++ l) (waves.1.adds.grows (home_of K lane)).1 ∙ sym (append_assoc mine opened (E (home_of K lane)))
+      whole = (grows (home_of K lane)).1 ∙ ap (λ l. mine ++ l) (waves.1.adds.grows (home_of K lane)).1
+          ∙ sym (append_assoc mine opened (E (home_of K lane)))
 
       told_is : told_in lane (mine ++ opened) ≡ told_in lane mine
       told_is =
           told_parts lane mine opened
-          ∙ ap (λ l. told_in lane mine ++ l) (none_told K (minted mint) (IsProperCompact submissions) some old new steady_old steady_new R waves.1 grows lane opened (waves.1.adds.grows (home_of K lane)).1)
+          ∙ ap (λ l. told_in lane mine ++ l) (none_told K (minted mint) (IsProperCompact submissions) some old new steady_old steady_new R waves.1
+          grows lane opened (waves.1.adds.grows (home_of K lane)).1)
           ∙ append-nil (told_in lane mine)
 
       place_is : (q : ℕ) → new_place K E X lane q ≡ place_of (map size_told told) q
       place_is q =
           ap (λ m. place_of (sized_onto lane m []) q) (added_is (E (home_of K lane)) (X (home_of K lane)) (mine ++ opened) whole)
-          ∙ ap (λ S. place_of S q) (sized_told lane (mine ++ opened) [] ∙ append-nil (map size_told (reverse (told_in lane (mine ++ opened)))) ∙ ap (λ T. map size_told (reverse T)) told_is)
+          ∙ ap (λ S. place_of S q) (sized_told lane (mine ++ opened) [] ∙ append-nil (map size_told (reverse (told_in lane (mine ++ opened))))
+          ∙ ap (λ T. map size_told (reverse T)) told_is)
 
       -- the batch of a place is of the lane, and new
       its_batch : (q : ℕ) (p : PlaceIn) → new_place K E X lane q ≡ Some p → (p.batch.lane ≡ lane) × (has_prepare K E p.batch ≡ false)
       its_batch q p e =
-          let a = among (λ c txs. (c.lane ≡ lane) × (has_prepare K E c ≡ false) × (txs_of (X (home_of K lane)) c ≡ txs)) (reverse (told_in lane (mine ++ opened))) q p
+          let a = among (λ c txs. (c.lane ≡ lane) × (has_prepare K E c ≡ false) × (txs_of (X (home_of K lane)) c ≡ txs))
+          (reverse (told_in lane (mine ++ opened))) q p
           (all_own K (minted mint) (IsProperCompact submissions) some old new steady_old steady_new lane (mine ++ opened) whole)
           (ap (λ T. place_of (map size_told (reverse T)) q) told_is ∙ sym (place_is q) ∙ e) in
           (a.1.0, a.1.1)
@@ -157,7 +176,8 @@ module _ (K : Shape) (mint : List Output) (submissions : List FullTx) (verdicts 
       one_turn_here : (q r : ℕ) (p : PlaceIn) → new_place K E X lane q ≡ Some p → new_place K E X lane r ≡ Some p → q ≡ r
       one_turn_here q r p e f =
           one_place told q r p
-          (subst (λ T. Apart (reverse T)) told_is (all_apart K (minted mint) (IsProperCompact submissions) some old new steady_old steady_new lane (mine ++ opened) whole))
+          (subst (λ T. Apart (reverse T)) told_is
+          (all_apart K (minted mint) (IsProperCompact submissions) some old new steady_old steady_new lane (mine ++ opened) whole))
           (sym (place_is q) ∙ e) (sym (place_is r) ∙ f)
 
       placed : (q : ℕ) (c : Compact) → tx_at (sent_of_all K sound files lane) q ≡ Some c → IsTxPlaced lane q c mine (X (home_of K lane))
@@ -170,10 +190,12 @@ module _ (K : Shape) (mint : List Output) (submissions : List FullTx) (verdicts 
           place_is q ∙ ap (λ S. place_of S q) (sym sizes) ∙ it.stands
 
       -- what is prepared at a new place has its turn among all that the lane gets
-      turn_of : (p : PlaceIn) (c : Compact) → p.batch.lane ≡ lane → IsNewlyPrepared K E X p c → (q : ℕ) × (new_place K E X lane q ≡ Some p) × (tx_at (sent_of_all K sound files lane) q ≡ Some c)
+      turn_of : (p : PlaceIn) (c : Compact) → p.batch.lane ≡ lane → IsNewlyPrepared K E X p c
+          → (q : ℕ) × (new_place K E X lane q ≡ Some p) × (tx_at (sent_of_all K sound files lane) q ≡ Some c)
       turn_of p c own it =
           let h : HasTurn told p.batch p.at c = subst (λ T. HasTurn (reverse T) p.batch p.at c) told_is
-          (new_turn K (minted mint) (IsProperCompact submissions) some old new steady_old steady_new lane (mine ++ opened) whole p.batch p.at c own it.new it.holds) in (
+          (new_turn K (minted mint) (IsProperCompact submissions) some old new steady_old steady_new lane (mine ++ opened) whole p.batch p.at c own
+          it.new it.holds) in (
             h.turn,
             place_is h.turn ∙ h.place_is,
             ap (λ l. tx_at l h.turn) (sym (told_joined K sound files lane R X mine lt waves.2 (grows (home_of K lane)).1)) ∙ h.tx_is,
@@ -185,7 +207,8 @@ module _ (K : Shape) (mint : List Output) (submissions : List FullTx) (verdicts 
     idle_at : (lane : ℕ) → lane < K.coordinators * K.lanes → (slot (X (home_of K lane)) lane).phase ≡ Idle
     idle_at = idle_behind K sound files R X waves.1.idle waves.2
       where
-        idle_behind : (K : Shape) (sound : FullTx → Bool) (files : List (List FullTx)) (I J : ℕ → List Record) → AreIdle K I → AreFilesRun K sound files I J → AreIdle K J
+        idle_behind : (K : Shape) (sound : FullTx → Bool) (files : List (List FullTx)) (I J : ℕ → List Record) → AreIdle K I
+            → AreFilesRun K sound files I J → AreIdle K J
         idle_behind K sound [] I J idle h lane lt = ap (λ L. (slot L lane).phase) (h (home_of K lane)) ∙ idle lane lt
         idle_behind K sound (file ∷ files) I J idle h lane lt = idle_behind K sound files h.0 J h.1.idle h.2 lane lt
 
@@ -253,25 +276,30 @@ module _ (K : Shape) (mint : List Output) (submissions : List FullTx) (verdicts 
         let mine_is : p.batch.lane ≡ lane_at K j = (its_batch (lane_at K j) (lane_low j) (turn K sound (take k files) it.file j) p e).0 in
         let other_is : p.batch.lane ≡ lane_at K h = (its_batch (lane_at K h) (lane_low h) (turn K sound (take i files) other.file h) p f).0 in
         let same : lane_at K h ≡ lane_at K j = sym other_is ∙ mine_is in
-        let turns = one_turn_here (lane_at K j) (lane_low j) (turn K sound (take k files) it.file j) (Turn K sound files i other.file h (lane_at K j)) p e
+        let turns = one_turn_here (lane_at K j) (lane_low j) (turn K sound (take k files) it.file j)
+        (Turn K sound files i other.file h (lane_at K j)) p e
         (subst (λ l. new_place K E X l (Turn K sound files i other.file h l) ≡ Some p) same f) in
-        one_submission K sound files k i it.file other.file j h (lane_at K j) t u it.file_is it.tx_is (passes k j t it) refl other.file_is other.tx_is (passes i h u other) same turns
+        one_submission K sound files k i it.file other.file j h (lane_at K j) t u it.file_is it.tx_is (passes k j t it) refl other.file_is
+        other.tx_is (passes i h u other) same turns
 
     -- nothing else has a place
     nothing_else : (p : PlaceIn) (c : Compact) → IsNewlyPrepared K E X p c
-        → (k : ℕ) × (j : ℕ) × (t : FullTx) × (it : IsSent verdicts files k j t) × (place_at K verdicts files E X k it.file j ≡ Some p) × (c ≡ compact t)
+        → (k : ℕ) × (j : ℕ) × (t : FullTx) × (it : IsSent verdicts files k j t) × (place_at K verdicts files E X k it.file j ≡ Some p)
+        × (c ≡ compact t)
     nothing_else p c it =
         let there = some_prepare (record_of 6 (X (home_of K p.batch.lane)) p.batch) it.holds in
         let s = prepare_stands (X (home_of K p.batch.lane)) p.batch there in
         let lt : p.batch.lane < K.coordinators * K.lanes
-        = (found_grammar K (minted mint) (IsProperCompact submissions) some new steady_new (home_of K p.batch.lane) 6 p.batch (Prepare s.0 p.batch (txs_of (X (home_of K p.batch.lane)) p.batch)) s.1).1.0 in
+        = (found_grammar K (minted mint) (IsProperCompact submissions) some new steady_new (home_of K p.batch.lane) 6 p.batch
+        (Prepare s.0 p.batch (txs_of (X (home_of K p.batch.lane)) p.batch)) s.1).1.0 in
         let q = turn_of p.batch.lane lt p c refl it in
         let f : Found K sound files p.batch.lane q.0 c = found K sound files p.batch.lane q.0 c q.2 in (
           f.number,
           f.place,
           f.tx,
           record { file = f.file; file_is = f.file_is; tx_is = f.tx_is; sound = (is_sound_law verdicts f.tx).0 f.is_sound },
-          subst (λ l. new_place K E X l (Turn K sound files f.number f.file f.place l) ≡ Some p) (sym f.lane_of) (ap (new_place K E X p.batch.lane) (sym f.turn_is) ∙ q.1),
+          subst (λ l. new_place K E X l (Turn K sound files f.number f.file f.place l) ≡ Some p) (sym f.lane_of)
+              (ap (new_place K E X p.batch.lane) (sym f.turn_is) ∙ q.1),
           f.is_compact,
         )
       where
@@ -287,8 +315,12 @@ journals_of K mint later n = journal n (later ++ first_rows K (minted mint))
 
 pub settled_law : SubmissionSettledLaw
 settled_law K mint submissions verdicts files E X some some_lane kept kept' =
-    let by_rows : Waves K (sound_by verdicts) files (journals_of K mint kept.later) (journals_of K mint kept'.later) → AreSettled K verdicts files (journals_of K mint kept.later) (journals_of K mint kept'.later)
-    = are_settled K mint submissions verdicts files some some_lane kept.later kept'.later kept.kept kept'.kept kept.history.ordered kept'.history.ordered in
-    let by_entry : Waves K (sound_by verdicts) files E (journals_of K mint kept'.later) → AreSettled K verdicts files E (journals_of K mint kept'.later)
-    = subst (λ I. Waves K (sound_by verdicts) files I (journals_of K mint kept'.later) → AreSettled K verdicts files I (journals_of K mint kept'.later)) (λ i n. kept.history.journals_are n i) by_rows in
+    let by_rows : Waves K (sound_by verdicts) files (journals_of K mint kept.later) (journals_of K mint kept'.later)
+    → AreSettled K verdicts files (journals_of K mint kept.later) (journals_of K mint kept'.later)
+    = are_settled K mint submissions verdicts files some some_lane kept.later kept'.later kept.kept kept'.kept kept.history.ordered
+    kept'.history.ordered in
+    let by_entry : Waves K (sound_by verdicts) files E (journals_of K mint kept'.later)
+    → AreSettled K verdicts files E (journals_of K mint kept'.later)
+    = subst (λ I. Waves K (sound_by verdicts) files I (journals_of K mint kept'.later)
+    → AreSettled K verdicts files I (journals_of K mint kept'.later)) (λ i n. kept.history.journals_are n i) by_rows in
     subst (λ Y. Waves K (sound_by verdicts) files E Y → AreSettled K verdicts files E Y) (λ i n. kept'.history.journals_are n i) by_entry

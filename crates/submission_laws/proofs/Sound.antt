@@ -4,7 +4,9 @@ use Rattle.std.specs.Prelude.{slice_get, sum_by, All}
 use Rattle.std.specs.List.{range_with_len}
 use Rattle.std.proofs.lemmas.List.Elements.{All-map}
 use Rattle.std.proofs.lemmas.List.Sums.{sum_by-cons}
-use Rattle.base_types.specs.declared.faults.Refusal.TheVariants.{NoInputs, NoOutputs, WitnessCount, RepeatedInput, ZeroInput, ZeroOutput, InputOverflow, OutputOverflow, Unbalanced, BurnedInput, PermitCount, PermitRaised, BadWitness, Unverified}
+use Rattle.base_types.specs.declared.faults.Refusal.TheVariants.{NoInputs, NoOutputs, WitnessCount, RepeatedInput, ZeroInput, ZeroOutput}
+use Rattle.base_types.specs.declared.faults.Refusal.TheVariants.{InputOverflow, OutputOverflow, Unbalanced, BurnedInput, PermitCount, PermitRaised}
+use Rattle.base_types.specs.declared.faults.Refusal.TheVariants.{BadWitness, Unverified}
 use Rattle.cbdc_types.specs.Kinds.{kind_of}
 use Rattle.cbdc_types.specs.declared.tx.Kind.TheVariants.{Burn, Money}
 use Rattle.cbdc_model.specs.Money.{permits_of}
@@ -12,7 +14,8 @@ use Rattle.cbdc_model.specs.Records.{Digest}
 use Rattle.cbdc_model.specs.Coins.{Input, Output, FullTx, tx_id, genesis_id}
 use Rattle.sentinel.specs.declared.verifier.Verdict.TheVariants.{Good}
 use Rattle.sentinel.specs.FirstRefusal.{IsSoundTx}
-use Rattle.workload.specs.Generator.{coin, coin_value, low_half, high_half, program, mint_of, minted_of, joined_of, splits_of, joins_of, split_of, join_of, join_by}
+use Rattle.workload.specs.Generator.{coin, coin_value, low_half, high_half, program, mint_of, minted_of, joined_of, splits_of, joins_of, split_of}
+use Rattle.workload.specs.Generator.{join_of, join_by}
 use Rattle.submission_laws.specs.Files.{all_good}
 use Rattle.submission_laws.proofs.MoneyAlone.{is_money, no_permit}
 
@@ -74,7 +77,12 @@ module _ (seed n i : ℕ) where
   split_takes_none genesis = one_sum (λ (c : Input). permits_of c.output) (spent genesis) ∙ no_permit (coin seed i) 1 (is_money i (coin_value seed i))
 
   split_makes_none : sum_by permits_of (low_half seed n i ∷ high_half seed n i ∷ []) ≡ 0
-  split_makes_none = omega (arith, two_sum permits_of (low_half seed n i) (high_half seed n i), no_permit (low_half seed n i) 1 low_money, no_permit (high_half seed n i) 1 high_money)
+  split_makes_none = omega (
+    arith,
+    two_sum permits_of (low_half seed n i) (high_half seed n i),
+    no_permit (low_half seed n i) 1 low_money,
+    no_permit (high_half seed n i) 1 high_money,
+  )
 
   join_takes_none : (split : Digest) → sum_by (λ (c : Input). permits_of c.output) (low_input split ∷ high_input split ∷ []) ≡ 0
   join_takes_none split = omega (
@@ -108,8 +116,10 @@ module _ (seed n i : ℕ) where
         | inl first ↦ let same = ap (λ (o : Output). o.value) first.1 in omega (arith, none, same, low)
         | inr second ↦ let same = ap (λ (o : Output). o.value) second.1 in omega (arith, none, same, high)
       ]
-  split_sound genesis InputOverflow much = let s = one_sum (λ (x : Input). x.output.value) (spent genesis) in let few = small in omega (arith, much, s, few)
-  split_sound genesis OutputOverflow much = let s = two_sum (λ (o : Output). o.value) (low_half seed n i) (high_half seed n i) in let few = small in let w = whole in omega (arith, much, s, few, w)
+  split_sound genesis InputOverflow much = let s = one_sum (λ (x : Input). x.output.value) (spent genesis) in let few = small in
+      omega (arith, much, s, few)
+  split_sound genesis OutputOverflow much = let s = two_sum (λ (o : Output). o.value) (low_half seed n i) (high_half seed n i) in let few = small in
+      let w = whole in omega (arith, much, s, few, w)
   split_sound genesis (Unbalanced ins outs) is =
       let s = one_sum (λ (x : Input). x.output.value) (spent genesis) in
       let o = two_sum (λ (o : Output). o.value) (low_half seed n i) (high_half seed n i) in
@@ -154,7 +164,8 @@ module _ (seed n i : ℕ) where
       let (x, at, none) = least.holds in
       let same = ap (λ (o : Output). o.value) (one_at joined x k at).1 in
       omega (arith, none, same)
-  join_sound split InputOverflow much = let s = two_sum (λ (x : Input). x.output.value) (low_input split) (high_input split) in let few = small in let w = whole in omega (arith, much, s, few, w)
+  join_sound split InputOverflow much = let s = two_sum (λ (x : Input). x.output.value) (low_input split) (high_input split) in let few = small in
+      let w = whole in omega (arith, much, s, few, w)
   join_sound split OutputOverflow much = let s = one_sum (λ (o : Output). o.value) joined in let few = small in omega (arith, much, s, few)
   join_sound split (Unbalanced ins outs) is =
       let s = two_sum (λ (x : Input). x.output.value) (low_input split) (high_input split) in
@@ -178,7 +189,8 @@ abbrev pub IsGood : FullTx → Type 0
 IsGood t = IsSoundTx t (all_good (tx_id t))
 
 pub splits_sound : (seed n : ℕ) → All IsGood (splits_of seed n)
-splits_sound seed n = All-map IsGood (split_of seed n (genesis_id (mint_of seed n))) (range_with_len 0 (minted_of n)) (λ k d lt. split_sound seed n _ (genesis_id (mint_of seed n)))
+splits_sound seed n = All-map IsGood (split_of seed n (genesis_id (mint_of seed n))) (range_with_len 0 (minted_of n))
+    (λ k d lt. split_sound seed n _ (genesis_id (mint_of seed n)))
 
 pub joins_sound : (seed n : ℕ) → All IsGood (joins_of seed n)
 joins_sound seed n = All-map IsGood (join_of seed n (genesis_id (mint_of seed n))) (range_with_len 0 (joined_of n)) (λ k d lt. join_sound seed n _ _)

@@ -1,5 +1,6 @@
 -- The turns of sound submissions among those of their lanes.
-use Rattle.std.proofs.Common.{◌≡◌, inl, inr, ℕ, zero, suc, ◌+◌, ◌-◌, ◌*◌, ◌%◌, ◌<◌, ◌≤◌, Bool, true, false, ◌==◌, if◌then◌else◌, List, [], ◌∷◌, ◌++◌, length, take, drop, map, Some, None, refl, sym, ap, ◌∙◌, subst, arith, append_assoc}
+use Rattle.std.proofs.Common.{◌≡◌, inl, inr, ℕ, zero, suc, ◌+◌, ◌-◌, ◌*◌, ◌%◌, ◌<◌, ◌≤◌, Bool, true, false, ◌==◌, if◌then◌else◌, List, [], ◌∷◌, ◌++◌}
+use Rattle.std.proofs.Common.{length, take, drop, map, Some, None, refl, sym, ap, ◌∙◌, subst, arith, append_assoc}
 use Rattle.std.specs.Prelude.{slice_get}
 use Rattle.std.specs.List.{filter}
 use Rattle.std.proofs.lemmas.Bool.{cases_lt}
@@ -25,23 +26,28 @@ some_tx u t e = cc
 module _ (sound : FullTx → Bool) (n lane : ℕ) where
   -- a sound submission of the lane parts what the lane gets
   pub parted : (file : List FullTx) (j : ℕ) (t : FullTx) → slice_get file j ≡ Some t → sound t ≡ true → j % n ≡ lane
-      → got sound n lane 0 file ≡ got sound n lane 0 (take j file) ++ compact t ∷ got sound n lane (suc (0 + length (take j file))) (drop (suc j) file)
+      → got sound n lane 0 file ≡ got sound n lane 0 (take j file) ++ compact t
+      ∷ got sound n lane (suc (0 + length (take j file))) (drop (suc j) file)
   parted file j t e s own =
-      let here : ((0 + length (take j file)) % n == lane) ≡ true = ap (λ k. k % n == lane) (from_zero (length (take j file)) ∙ before_get file j t e) ∙ ap (λ k. k == lane) own ∙ number_self lane in
+      let here : ((0 + length (take j file)) % n == lane) ≡ true =
+      ap (λ k. k % n == lane) (from_zero (length (take j file)) ∙ before_get file j t e) ∙ ap (λ k. k == lane) own ∙ number_self lane in
       ap (got sound n lane 0) (split_get file j t e) ∙ got-append sound n lane 0 (take j file) (t ∷ drop (suc j) file)
       ∙ ap (λ l. got sound n lane 0 (take j file) ++ l) (got_here sound n lane (0 + length (take j file)) t (drop (suc j) file) s here)
 
   -- so fewer come before it than to the whole file
-  pub fewer : (file : List FullTx) (j : ℕ) (t : FullTx) → slice_get file j ≡ Some t → sound t ≡ true → j % n ≡ lane → length (got sound n lane 0 (take j file)) < length (got sound n lane 0 file)
+  pub fewer : (file : List FullTx) (j : ℕ) (t : FullTx) → slice_get file j ≡ Some t → sound t ≡ true → j % n ≡ lane
+      → length (got sound n lane 0 (take j file)) < length (got sound n lane 0 file)
   fewer file j t e s own =
       let l = ap length (parted file j t e s own) in
       let a = length-append (got sound n lane 0 (take j file)) (compact t ∷ got sound n lane (suc (0 + length (take j file))) (drop (suc j) file)) in
       omega (arith, l, a)
 
   -- and than before a later one
-  pub fewer_before : (file : List FullTx) (j h : ℕ) (t : FullTx) → j < h → slice_get file j ≡ Some t → sound t ≡ true → j % n ≡ lane → length (got sound n lane 0 (take j file)) < length (got sound n lane 0 (take h file))
+  pub fewer_before : (file : List FullTx) (j h : ℕ) (t : FullTx) → j < h → slice_get file j ≡ Some t → sound t ≡ true → j % n ≡ lane
+      → length (got sound n lane 0 (take j file)) < length (got sound n lane 0 (take h file))
   fewer_before file j h t low e s own =
-      subst (λ l. length (got sound n lane 0 l) < length (got sound n lane 0 (take h file))) (taken_twice file j h low) (fewer (take h file) j t (taken_get file j h t low e) s own)
+      subst (λ l. length (got sound n lane 0 l) < length (got sound n lane 0 (take h file))) (taken_twice file j h low)
+      (fewer (take h file) j t (taken_get file j h t low e) s own)
 
   -- each that the lane gets is a sound submission of the file
   pub record Comes (file : List FullTx) (k q : ℕ) (c : Compact) : Type 0 where
@@ -54,7 +60,8 @@ module _ (sound : FullTx → Bool) (n lane : ℕ) where
     pub is_compact : c ≡ compact tx
 
   -- behind one that does not go to the lane, and behind one that does
-  passed : (u : FullTx) (us : List FullTx) (k q : ℕ) (c : Compact) → ((vs : List FullTx) → got sound n lane k (u ∷ vs) ≡ got sound n lane (suc k) vs) → Comes us (suc k) q c → Comes (u ∷ us) k q c
+  passed : (u : FullTx) (us : List FullTx) (k q : ℕ) (c : Compact) → ((vs : List FullTx) → got sound n lane k (u ∷ vs) ≡ got sound n lane (suc k) vs)
+      → Comes us (suc k) q c → Comes (u ∷ us) k q c
   passed u us k q c skip f = record {
     place = suc f.place;
     tx = f.tx;
@@ -68,7 +75,9 @@ module _ (sound : FullTx → Bool) (n lane : ℕ) where
       shift : (k p : ℕ) → k + suc p ≡ suc k + p
       shift k p = omega arith
 
-  counted : (u : FullTx) (us : List FullTx) (k q : ℕ) (c : Compact) → ((vs : List FullTx) → got sound n lane k (u ∷ vs) ≡ compact u ∷ got sound n lane (suc k) vs) → Comes us (suc k) q c → Comes (u ∷ us) k (suc q) c
+  counted : (u : FullTx) (us : List FullTx) (k q : ℕ) (c : Compact)
+      → ((vs : List FullTx) → got sound n lane k (u ∷ vs) ≡ compact u ∷ got sound n lane (suc k) vs) → Comes us (suc k) q c
+      → Comes (u ∷ us) k (suc q) c
   counted u us k q c more f = record {
     place = suc f.place;
     tx = f.tx;
@@ -82,8 +91,10 @@ module _ (sound : FullTx → Bool) (n lane : ℕ) where
       shift : (k p : ℕ) → k + suc p ≡ suc k + p
       shift k p = omega arith
 
-  first_one : (u : FullTx) (us : List FullTx) (k q : ℕ) (c : Compact) → (k % n == lane) ≡ true → sound u ≡ true → ((vs : List FullTx) → got sound n lane k (u ∷ vs) ≡ compact u ∷ got sound n lane (suc k) vs)
-      → ((q : ℕ) → tx_at (got sound n lane (suc k) us) q ≡ Some c → Comes us (suc k) q c) → tx_at (compact u ∷ got sound n lane (suc k) us) q ≡ Some c → Comes (u ∷ us) k q c
+  first_one : (u : FullTx) (us : List FullTx) (k q : ℕ) (c : Compact) → (k % n == lane) ≡ true → sound u ≡ true
+      → ((vs : List FullTx) → got sound n lane k (u ∷ vs) ≡ compact u ∷ got sound n lane (suc k) vs)
+      → ((q : ℕ) → tx_at (got sound n lane (suc k) us) q ≡ Some c → Comes us (suc k) q c)
+      → tx_at (compact u ∷ got sound n lane (suc k) us) q ≡ Some c → Comes (u ∷ us) k q c
   first_one u us k zero c own s more rest e = record {
     place = 0;
     tx = u;
@@ -100,7 +111,8 @@ module _ (sound : FullTx → Bool) (n lane : ℕ) where
 
   -- what a lane gets of a submission and those behind it
   got_by : (u : FullTx) (vs : List FullTx) (k : ℕ) (own s : Bool) → (k % n == lane) ≡ own → sound u ≡ s
-      → got sound n lane k (u ∷ vs) ≡ (if own then (if s then compact u ∷ got sound n lane (suc k) vs else got sound n lane (suc k) vs) else got sound n lane (suc k) vs)
+      → got sound n lane k (u ∷ vs) ≡ (if own then (if s then compact u ∷ got sound n lane (suc k) vs else got sound n lane (suc k) vs)
+      else got sound n lane (suc k) vs)
   got_by u vs k true true e f = got_here sound n lane k u vs f e
   got_by u vs k true false e f =
       ap (λ b. map compact (filter sound (if b then u ∷ share n lane (suc k) vs else share n lane (suc k) vs))) e
@@ -109,12 +121,16 @@ module _ (sound : FullTx → Bool) (n lane : ℕ) where
   got_by u vs k false false e f = ap (λ b. map compact (filter sound (if b then u ∷ share n lane (suc k) vs else share n lane (suc k) vs))) e
 
   comes_by : (u : FullTx) (us : List FullTx) (k q : ℕ) (c : Compact) (own s : Bool) → (k % n == lane) ≡ own → sound u ≡ s
-      → ((q : ℕ) → tx_at (got sound n lane (suc k) us) q ≡ Some c → Comes us (suc k) q c) → tx_at (got sound n lane k (u ∷ us)) q ≡ Some c → Comes (u ∷ us) k q c
+      → ((q : ℕ) → tx_at (got sound n lane (suc k) us) q ≡ Some c → Comes us (suc k) q c) → tx_at (got sound n lane k (u ∷ us)) q ≡ Some c
+      → Comes (u ∷ us) k q c
   comes_by u us k q c true true e f rest at =
       first_one u us k q c e f (λ vs. got_by u vs k true true e f) rest (sym (ap (λ l. tx_at l q) (got_by u us k true true e f)) ∙ at)
-  comes_by u us k q c true false e f rest at = passed u us k q c (λ vs. got_by u vs k true false e f) (rest q (sym (ap (λ l. tx_at l q) (got_by u us k true false e f)) ∙ at))
-  comes_by u us k q c false true e f rest at = passed u us k q c (λ vs. got_by u vs k false true e f) (rest q (sym (ap (λ l. tx_at l q) (got_by u us k false true e f)) ∙ at))
-  comes_by u us k q c false false e f rest at = passed u us k q c (λ vs. got_by u vs k false false e f) (rest q (sym (ap (λ l. tx_at l q) (got_by u us k false false e f)) ∙ at))
+  comes_by u us k q c true false e f rest at = passed u us k q c (λ vs. got_by u vs k true false e f)
+      (rest q (sym (ap (λ l. tx_at l q) (got_by u us k true false e f)) ∙ at))
+  comes_by u us k q c false true e f rest at = passed u us k q c (λ vs. got_by u vs k false true e f)
+      (rest q (sym (ap (λ l. tx_at l q) (got_by u us k false true e f)) ∙ at))
+  comes_by u us k q c false false e f rest at = passed u us k q c (λ vs. got_by u vs k false false e f)
+      (rest q (sym (ap (λ l. tx_at l q) (got_by u us k false false e f)) ∙ at))
 
   pub comes : (file : List FullTx) (k q : ℕ) (c : Compact) → tx_at (got sound n lane k file) q ≡ Some c → Comes file k q c
   comes [] k q c e = absurd (let z : None ≡ Some c = e in cc)
@@ -128,27 +144,34 @@ module _ (K : Shape) (sound : FullTx → Bool) where
 
   pub sent_both : (A B : List (List FullTx)) (lane : ℕ) → sent_of_all K sound (A ++ B) lane ≡ sent_of_all K sound A lane ++ sent_of_all K sound B lane
   sent_both [] B lane = refl
-  sent_both (file ∷ A) B lane = ap (λ l. sent_to K sound file lane ++ l) (sent_both A B lane) ∙ sym (append_assoc (sent_to K sound file lane) (sent_of_all K sound A lane) (sent_of_all K sound B lane))
+  sent_both (file ∷ A) B lane = ap (λ l. sent_to K sound file lane ++ l) (sent_both A B lane)
+      ∙ sym (append_assoc (sent_to K sound file lane) (sent_of_all K sound A lane) (sent_of_all K sound B lane))
 
   pub sent_many : (files : List (List FullTx)) (lane : ℕ) → length (sent_of_all K sound files lane) ≡ sent_before K sound files lane
   sent_many [] lane = refl
   sent_many (file ∷ files) lane =
-      length-append (sent_to K sound file lane) (sent_of_all K sound files lane) ∙ ap (λ n. length (sent_to K sound file lane) + n) (sent_many files lane)
+      length-append (sent_to K sound file lane) (sent_of_all K sound files lane)
+      ∙ ap (λ n. length (sent_to K sound file lane) + n) (sent_many files lane)
       ∙ sym (sum_by-cons (λ f. length (sent_to K sound f lane)) file files)
 
   sent_parted : (files : List (List FullTx)) (k : ℕ) (file : List FullTx) (lane : ℕ) → slice_get files k ≡ Some file
-      → sent_of_all K sound files lane ≡ sent_of_all K sound (take k files) lane ++ (sent_to K sound file lane ++ sent_of_all K sound (drop (suc k) files) lane)
-  sent_parted files k file lane e = ap (λ fs. sent_of_all K sound fs lane) (split_get files k file e) ∙ sent_both (take k files) (file ∷ drop (suc k) files) lane
+      → sent_of_all K sound files lane ≡ sent_of_all K sound (take k files) lane
+      ++ (sent_to K sound file lane ++ sent_of_all K sound (drop (suc k) files) lane)
+  sent_parted files k file lane e = ap (λ fs. sent_of_all K sound fs lane) (split_get files k file e)
+      ∙ sent_both (take k files) (file ∷ drop (suc k) files) lane
 
   -- a sound submission has its turn among all that its lane gets
-  pub at_turn : (files : List (List FullTx)) (k : ℕ) (file : List FullTx) (j : ℕ) (t : FullTx) → slice_get files k ≡ Some file → slice_get file j ≡ Some t → sound t ≡ true
+  pub at_turn : (files : List (List FullTx)) (k : ℕ) (file : List FullTx) (j : ℕ) (t : FullTx) → slice_get files k ≡ Some file
+      → slice_get file j ≡ Some t → sound t ≡ true
       → tx_at (sent_of_all K sound files (lane_at K j)) (turn K sound (take k files) file j) ≡ Some (compact t)
   at_turn files k file j t there here s =
       let lane : ℕ = lane_at K j in
       let A = sent_to K sound (take j file) (lane_at K j) in
       let B = got sound (K.coordinators * K.lanes) (lane_at K j) (suc (0 + length (take j file))) (drop (suc j) file) in
       ap (λ l. tx_at l (turn K sound (take k files) file j)) (sent_parted files k file (lane_at K j) there)
-      ∙ tx_behind (sent_of_all K sound (take k files) (lane_at K j)) (sent_to K sound file (lane_at K j) ++ sent_of_all K sound (drop (suc k) files) (lane_at K j)) (length A) (turn K sound (take k files) file j)
+      ∙ tx_behind (sent_of_all K sound (take k files) (lane_at K j))
+      (sent_to K sound file (lane_at K j) ++ sent_of_all K sound (drop (suc k) files) (lane_at K j)) (length A)
+      (turn K sound (take k files) file j)
       (ap (λ n. n + length A) (sym (sent_many (take k files) (lane_at K j))))
       ∙ tx_front (sent_to K sound file (lane_at K j)) (sent_of_all K sound (drop (suc k) files) (lane_at K j)) (length A) (compact t)
       (ap (λ l. tx_at l (length A)) (parted sound (K.coordinators * K.lanes) (lane_at K j) file j t here s refl)
@@ -167,7 +190,8 @@ module _ (K : Shape) (sound : FullTx → Bool) where
   abbrev pub Turn : List (List FullTx) → ℕ → List FullTx → ℕ → ℕ → ℕ
   Turn files k file j lane = sent_before K sound (take k files) lane + length (sent_to K sound (take j file) lane)
 
-  earlier_file : (files : List (List FullTx)) (k i : ℕ) (file other : List FullTx) (j h lane : ℕ) (t : FullTx) → k < i → slice_get files k ≡ Some file → slice_get file j ≡ Some t → sound t ≡ true → lane_at K j ≡ lane
+  earlier_file : (files : List (List FullTx)) (k i : ℕ) (file other : List FullTx) (j h lane : ℕ) (t : FullTx) → k < i
+      → slice_get files k ≡ Some file → slice_get file j ≡ Some t → sound t ≡ true → lane_at K j ≡ lane
       → Turn files k file j lane < Turn files i other h lane
   earlier_file files k i file other j h lane t low there here s own =
       let a = fewer sound (K.coordinators * K.lanes) lane file j t here s own in
@@ -235,7 +259,8 @@ module _ (K : Shape) (sound : FullTx → Bool) where
   found [] lane q c e = absurd (let z : None ≡ Some c = e in cc)
   found (file ∷ files) lane q c e = elim (cases_lt q (length (sent_to K sound file lane))) [
     | inl low ↦
-        let f = comes sound (K.coordinators * K.lanes) lane file 0 q c (sym (in_front (sent_to K sound file lane) (sent_of_all K sound files lane) q low) ∙ e) in
+        let f = comes sound (K.coordinators * K.lanes) lane file 0 q c
+        (sym (in_front (sent_to K sound file lane) (sent_of_all K sound files lane) q low) ∙ e) in
         record {
           number = 0;
           file = file;
@@ -251,7 +276,8 @@ module _ (K : Shape) (sound : FullTx → Bool) where
     | inr past ↦
         let rest = q - length (sent_to K sound file lane) in
         let is : q ≡ length (sent_to K sound file lane) + (q - length (sent_to K sound file lane)) = omega (arith, past) in
-        let f = found files lane (q - length (sent_to K sound file lane)) c (sym (tx_behind (sent_to K sound file lane) (sent_of_all K sound files lane) (q - length (sent_to K sound file lane)) q is) ∙ e) in
+        let f = found files lane (q - length (sent_to K sound file lane)) c
+        (sym (tx_behind (sent_to K sound file lane) (sent_of_all K sound files lane) (q - length (sent_to K sound file lane)) q is) ∙ e) in
         record {
           number = suc f.number;
           file = f.file;
@@ -261,7 +287,8 @@ module _ (K : Shape) (sound : FullTx → Bool) where
           tx_is = f.tx_is;
           is_sound = f.is_sound;
           lane_of = f.lane_of;
-          turn_is = is ∙ (let t = f.turn_is in let h = sum_by-cons (λ g. length (sent_to K sound g lane)) file (take f.number files) in omega (arith, t, h));
+          turn_is = is ∙ (let t = f.turn_is in let h = sum_by-cons (λ g. length (sent_to K sound g lane)) file (take f.number files) in
+              omega (arith, t, h));
           is_compact = f.is_compact;
         }
   ]

@@ -1,5 +1,6 @@
 -- Which hashes are unspent in kept journals in which every lane is idle, by what is committed.
-use Rattle.std.proofs.Common.{◌≡◌, ◌⊎◌, inl, inr, ℕ, zero, suc, ◌+◌, ◌/◌, ◌<◌, true, false, if◌then◌else◌, List, [], ◌∷◌, Some, None, refl, sym, subst, arith}
+use Rattle.std.proofs.Common.{◌≡◌, ◌⊎◌, inl, inr, ℕ, zero, suc, ◌+◌, ◌/◌, ◌<◌, true, false, if◌then◌else◌, List, [], ◌∷◌, Some, None, refl, sym}
+use Rattle.std.proofs.Common.{subst, arith}
 use Rattle.std.proofs.Math.Nat.{div-lt_iff_lt-mul}
 use Rattle.cbdc_model.specs.Records.{Digest, Shape, Batch, Compact, Outcome, Row, journal, is_won, Won}
 use Rattle.cbdc_model.specs.Status.{Status, status, Unspent, Locked, Absent}
@@ -47,7 +48,8 @@ pub record OneOf (P : Compact → Type 0) (ks : List Compact) (x : Digest) (of :
   pub passes : P form
   pub has_it : In x (of form)
 
-one_more : (P : Compact → Type 0) (l : Compact) (ks : List Compact) (x : Digest) (of : Compact → List Digest) → OneOf P ks x of → OneOf P (l ∷ ks) x of
+one_more : (P : Compact → Type 0) (l : Compact) (ks : List Compact) (x : Digest) (of : Compact → List Digest) → OneOf P ks x of
+    → OneOf P (l ∷ ks) x of
 one_more P l ks x of r = record { form = r.form; inside = inr r.inside; passes = r.passes; has_it = r.has_it }
 
 some_or_none : (n : ℕ) → (n ≡ 0) ⊎ (0 < n)
@@ -58,21 +60,25 @@ pub spender : (P : Compact → Type 0) (ks : List Compact) (x : Digest) → Each
 spender P [] x each h = absurd (omega (arith, h))
 spender P (l ∷ ks) x each h = elim (some_or_none (count x l.inputs)) [
   | inr here ↦ record { form = l; inside = inl refl; passes = each.0; has_it = count_in x l.inputs here }
-  | inl none ↦ one_more P l ks x (λ k. k.inputs) (spender P ks x each.1 (let a = count-append x l.inputs (all_inputs ks) in omega (arith, a, none, h)))
+  | inl none ↦ one_more P l ks x (λ k. k.inputs) (spender P ks x each.1
+      (let a = count-append x l.inputs (all_inputs ks) in omega (arith, a, none, h)))
 ]
 
 pub maker : (P : Compact → Type 0) (ks : List Compact) (x : Digest) → Each P ks → 0 < count x (all_outputs ks) → OneOf P ks x (λ k. k.outputs)
 maker P [] x each h = absurd (omega (arith, h))
 maker P (l ∷ ks) x each h = elim (some_or_none (count x l.outputs)) [
   | inr here ↦ record { form = l; inside = inl refl; passes = each.0; has_it = count_in x l.outputs here }
-  | inl none ↦ one_more P l ks x (λ k. k.outputs) (maker P ks x each.1 (let a = count-append x l.outputs (all_outputs ks) in omega (arith, a, none, h)))
+  | inl none ↦ one_more P l ks x (λ k. k.outputs)
+      (maker P ks x each.1 (let a = count-append x l.outputs (all_outputs ks) in omega (arith, a, none, h)))
 ]
 
 -- a transaction at a place whose outcome is that it is committed
-pub won_there : (txs : List Compact) (os : List Outcome) (at : ℕ) (k : Compact) → tx_at txs at ≡ Some k → outcome_at os at ≡ Some Won → In k (won_txs txs os)
+pub won_there : (txs : List Compact) (os : List Outcome) (at : ℕ) (k : Compact) → tx_at txs at ≡ Some k → outcome_at os at ≡ Some Won
+    → In k (won_txs txs os)
 won_there [] os at k e o = absurd (let z : None ≡ Some k = e in cc)
 won_there (t ∷ txs) [] at k e o = absurd (let z : None ≡ Some Won = o in cc)
-won_there (t ∷ txs) (q ∷ os) zero k e o = subst (λ r. In k (if is_won r then t ∷ won_txs txs os else won_txs txs os)) (some_outcome Won q (sym o)) (inl (some_tx k t (sym e)))
+won_there (t ∷ txs) (q ∷ os) zero k e o = subst (λ r. In k (if is_won r then t ∷ won_txs txs os else won_txs txs os)) (some_outcome Won q (sym o))
+    (inl (some_tx k t (sym e)))
   where
     some_outcome : (p q : Outcome) → Some p ≡ Some q → p ≡ q
     some_outcome p q e = cc
@@ -85,7 +91,8 @@ won_there (t ∷ txs) (q ∷ os) (suc at) k e o =
 
 -- ---- in a kept history whose lanes are idle
 
-module _ (K : Shape) (mint : List Output) (submissions : List FullTx) (clean : Clean mint submissions) (some : 0 < K.shards) (lanes : 0 < K.lanes) (later : List Row)
+module _ (K : Shape) (mint : List Output) (submissions : List FullTx) (clean : Clean mint submissions) (some : 0 < K.shards) (lanes : 0 < K.lanes)
+    (later : List Row)
     (kept : Steady K (minted mint) (IsProperCompact submissions) later) where
   abbrev past : List Row
   past = history_of K mint later
@@ -103,22 +110,26 @@ module _ (K : Shape) (mint : List Output) (submissions : List FullTx) (clean : C
   each_passes = kept_each K (IsProperCompact submissions) (minted mint) some none_clash later kept
 
   -- what a batch's committed transaction spends and makes is spent and made
-  pub won_spends : (b : Batch) (k : Compact) (x : Digest) → In k (won_of K (history_of K mint later) b) → In x k.inputs → 0 < count x (all_inputs (committed (history_of K mint later)))
+  pub won_spends : (b : Batch) (k : Compact) (x : Digest) → In k (won_of K (history_of K mint later) b) → In x k.inputs
+      → 0 < count x (all_inputs (committed (history_of K mint later)))
   won_spends b k x h i = let le = inv.takes_le x b in let c = in_inputs (won_of K (history_of K mint later) b) k x h i in omega (arith, le, c)
 
-  pub won_makes : (b : Batch) (k : Compact) (x : Digest) → In k (won_of K (history_of K mint later) b) → In x k.outputs → 0 < count x (all_outputs (committed (history_of K mint later)))
+  pub won_makes : (b : Batch) (k : Compact) (x : Digest) → In k (won_of K (history_of K mint later) b) → In x k.outputs
+      → 0 < count x (all_outputs (committed (history_of K mint later)))
   won_makes b k x h i = let le = inv.makes_le x b in let c = in_outputs (won_of K (history_of K mint later) b) k x h i in omega (arith, le, c)
 
   -- an unspent hash was made, and is not spent
   pub unspent_is : (x : Digest) → status (journal_at K (history_of K mint later) x) x ≡ Unspent
-      → (0 < count x (genesis_hashes mint) + count x (all_outputs (committed (history_of K mint later)))) × (count x (all_inputs (committed (history_of K mint later))) ≡ 0)
+      → (0 < count x (genesis_hashes mint) + count x (all_outputs (committed (history_of K mint later))))
+      × (count x (all_inputs (committed (history_of K mint later))) ≡ 0)
   unspent_is x e = let u = inv.unspent x e in let le = inv.arrived_le x in let one = u.0 in (omega (arith, le, one), u.1)
 
   module _ (idle : AreIdle K (λ k. journal k (history_of K mint later))) where
     all_idle : (lane : ℕ) → lane / K.lanes < K.coordinators → (slot (journal (lane / K.lanes) (history_of K mint later)) lane).phase ≡ Idle
     all_idle lane low = idle lane ((div-lt_iff_lt-mul lanes).0 low)
 
-    by_status : (x : Digest) (s : Status) → status (journal_at K (history_of K mint later) x) x ≡ s → 0 < count x (genesis_hashes mint) + count x (all_outputs (committed (history_of K mint later)))
+    by_status : (x : Digest) (s : Status) → status (journal_at K (history_of K mint later) x) x ≡ s
+        → 0 < count x (genesis_hashes mint) + count x (all_outputs (committed (history_of K mint later)))
         → count x (all_inputs (committed (history_of K mint later))) ≡ 0 → s ≡ Unspent
     by_status x Unspent e made spent = refl
     by_status x (Locked b) e made spent = absurd (none_locked K (minted mint) (IsProperCompact submissions) some later kept all_idle x b inv e)
@@ -128,6 +139,7 @@ module _ (K : Shape) (mint : List Output) (submissions : List FullTx) (clean : C
         absurd (none_coming K (minted mint) (IsProperCompact submissions) some later kept all_idle x waits.batch waits.makes waits.unfinished)
 
     -- what was made and is not spent is unspent
-    pub is_unspent : (x : Digest) → 0 < count x (genesis_hashes mint) + count x (all_outputs (committed (history_of K mint later))) → count x (all_inputs (committed (history_of K mint later))) ≡ 0
+    pub is_unspent : (x : Digest) → 0 < count x (genesis_hashes mint) + count x (all_outputs (committed (history_of K mint later)))
+        → count x (all_inputs (committed (history_of K mint later))) ≡ 0
         → status (journal_at K (history_of K mint later) x) x ≡ Unspent
     is_unspent x made spent = by_status x (status (journal_at K (history_of K mint later) x) x) refl made spent

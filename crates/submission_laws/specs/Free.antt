@@ -20,7 +20,8 @@ IsUncontended verdicts file j t = (i : ℕ) (u : FullTx) → slice_get file i �
     → (x : Digest) → has (compact t).inputs x ≡ true → has (compact u).inputs x ≡ false
 
 -- it is committed, in some batch, and so told
-pub record IsSubmissionConfirmed (K : Shape) (verdicts : VerdictsOf) (files : List (List FullTx)) (E X : ℕ → List Record) (k : ℕ) (file : List FullTx) (j : ℕ) (t : FullTx) : Type 0 where
+pub record IsSubmissionConfirmed (K : Shape) (verdicts : VerdictsOf) (files : List (List FullTx)) (E X : ℕ → List Record) (k : ℕ)
+    (file : List FullTx) (j : ℕ) (t : FullTx) : Type 0 where
   pub batch : Batch
   pub decided : decided_at K E X (lane_at K j) (turn K (sound_by verdicts) (take k files) file j) ≡ Some (batch, Won)
   pub told : (r : Report) → IsReport K verdicts (sound_by verdicts) E X (take k files) file j t r → r ≡ Decided batch Won
@@ -28,10 +29,13 @@ pub record IsSubmissionConfirmed (K : Shape) (verdicts : VerdictsOf) (files : Li
 -- a sound submission whose inputs are unspent when its file's wave begins, and which no other sound submission of its file spends, is confirmed
 abbrev pub AreFreeConfirmed : Shape → VerdictsOf → List (List FullTx) → (ℕ → List Record) → (ℕ → List Record) → Type 0
 AreFreeConfirmed K verdicts files E X = (k j : ℕ) (t : FullTx) (it : IsSent verdicts files k j t) (M : ℕ → List Record)
-    → BeginsWave K (sound_by verdicts) files k E X M → ((x : Digest) → has (compact t).inputs x ≡ true → IsUnspent K M x) → IsUncontended verdicts it.file j t
+    → BeginsWave K (sound_by verdicts) files k E X M → ((x : Digest) → has (compact t).inputs x ≡ true → IsUnspent K M x)
+    → IsUncontended verdicts it.file j t
     → IsSubmissionConfirmed K verdicts files E X k it.file j t
 
 -- so it is in every run from kept journals to kept journals
 abbrev pub FreeConfirmedLaw : Type 0
-FreeConfirmedLaw = (K : Shape) (mint : List Output) (submissions : List FullTx) (verdicts : VerdictsOf) (files : List (List FullTx)) (E X : ℕ → List Record)
-    → 0 < K.shards → 0 < K.coordinators * K.lanes → KeptJournals K mint submissions E → KeptJournals K mint submissions X → AreFreeConfirmed K verdicts files E X
+FreeConfirmedLaw = (K : Shape) (mint : List Output) (submissions : List FullTx) (verdicts : VerdictsOf) (files : List (List FullTx))
+    (E X : ℕ → List Record)
+    → 0 < K.shards → 0 < K.coordinators * K.lanes → KeptJournals K mint submissions E → KeptJournals K mint submissions X
+    → AreFreeConfirmed K verdicts files E X

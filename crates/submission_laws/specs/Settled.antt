@@ -16,7 +16,8 @@ use Rattle.submission_laws.specs.Replied.{IsReplied}
 
 -- a sound submission has its place in a Prepare of its lane that came newly, and an outcome by the shards' replies, which the lane's coordinator wrote
 -- down; these are what is told of it
-pub record IsSubmissionSettled (K : Shape) (verdicts : VerdictsOf) (files : List (List FullTx)) (E X : ℕ → List Record) (k : ℕ) (file : List FullTx) (j : ℕ) (t : FullTx) : Type 0 where
+pub record IsSubmissionSettled (K : Shape) (verdicts : VerdictsOf) (files : List (List FullTx)) (E X : ℕ → List Record) (k : ℕ) (file : List FullTx)
+    (j : ℕ) (t : FullTx) : Type 0 where
   pub place : PlaceIn
   pub outcome : Outcome
   pub place_is : place_at K verdicts files E X k file j ≡ Some place
@@ -39,6 +40,8 @@ pub record AreSettled (K : Shape) (verdicts : VerdictsOf) (files : List (List Fu
 
 -- so it is in every run from kept journals to kept journals
 abbrev pub SubmissionSettledLaw : Type 0
-SubmissionSettledLaw = (K : Shape) (mint : List Output) (submissions : List FullTx) (verdicts : VerdictsOf) (files : List (List FullTx)) (E X : ℕ → List Record)
-    → 0 < K.shards → 0 < K.coordinators * K.lanes → KeptJournals K mint submissions E → KeptJournals K mint submissions X → Waves K (sound_by verdicts) files E X
+SubmissionSettledLaw = (K : Shape) (mint : List Output) (submissions : List FullTx) (verdicts : VerdictsOf) (files : List (List FullTx))
+    (E X : ℕ → List Record)
+    → 0 < K.shards → 0 < K.coordinators * K.lanes → KeptJournals K mint submissions E → KeptJournals K mint submissions X
+    → Waves K (sound_by verdicts) files E X
     → AreSettled K verdicts files E X

@@ -35,12 +35,16 @@ totals_of seed n = record {
 -- behind a run of a workload each of its transactions is confirmed, `left_of` hashes are unspent, and the totals of an audit that finds all sound
 -- are `totals_of`
 pub record IsWorkloadWhole (K : Shape) (seed n : ℕ) (X : ℕ → List Record) : Type 0 where
-  pub confirmed : (k j : ℕ) (t : FullTx) (it : IsSent all_good (files_of seed n) k j t) → IsSubmissionConfirmed K all_good (files_of seed n) (made_for K seed n) X k it.file j t
+  pub confirmed : (k j : ℕ) (t : FullTx) (it : IsSent all_good (files_of seed n) k j t)
+      → IsSubmissionConfirmed K all_good (files_of seed n) (made_for K seed n) X k it.file j t
   pub unspent : (m : ℕ) → IsUnspentCount K X m → m ≡ left_of n
-  pub totals : (rows : List Row) (totals : Totals) → ((node : ℕ) → journal node (reverse rows) ≡ X node) → IsOrdered (reverse rows) → IsSoundHistory K (mint_of seed n) (all_submissions seed n) rows totals
+  pub totals : (rows : List Row) (totals : Totals) → ((node : ℕ) → journal node (reverse rows) ≡ X node) → IsOrdered (reverse rows)
+      → IsSoundHistory K (mint_of seed n) (all_submissions seed n) rows totals
       → totals ≡ totals_of seed n
 
 -- so it is behind every run of the two files over the ledger of the mint
 abbrev pub WholeLaw : Type 0
-WholeLaw = (K : Shape) (seed n : ℕ) (X : ℕ → List Record) → 0 < K.shards → 0 < K.lanes → 0 < K.coordinators * K.lanes → Clean (mint_of seed n) (all_submissions seed n)
-    → KeptJournals K (mint_of seed n) (all_submissions seed n) X → Waves K (sound_by all_good) (files_of seed n) (made_for K seed n) X → IsWorkloadWhole K seed n X
+WholeLaw = (K : Shape) (seed n : ℕ) (X : ℕ → List Record) → 0 < K.shards → 0 < K.lanes → 0 < K.coordinators * K.lanes
+    → Clean (mint_of seed n) (all_submissions seed n)
+    → KeptJournals K (mint_of seed n) (all_submissions seed n) X → Waves K (sound_by all_good) (files_of seed n) (made_for K seed n) X
+    → IsWorkloadWhole K seed n X

@@ -1,5 +1,6 @@
 -- What each part of the test decides.
-use Rattle.std.proofs.Common.{◌≡◌, ℕ, zero, suc, ◌<◌, ◌≤◌, Bool, ◌&&◌, not, ◌==◌, nat_lt, List, [], ◌∷◌, length, Some, None, refl, sym, ap, ◌∙◌, subst, arith, inl, inr}
+use Rattle.std.proofs.Common.{◌≡◌, ℕ, zero, suc, ◌<◌, ◌≤◌, Bool, ◌&&◌, not, ◌==◌, nat_lt, List, [], ◌∷◌, length, Some, None, refl, sym, ap, ◌∙◌}
+use Rattle.std.proofs.Common.{subst, arith, inl, inr}
 use Rattle.std.specs.Prelude.{bytes_eq, Decides}
 use Rattle.std.specs.List.{list_all}
 use Rattle.std.proofs.lemmas.Bool.{cases_lt}
@@ -46,7 +47,8 @@ module _ {X : Type 0} (Q : X → Type 0) (test : X → Bool) (each : (x : X) →
       ahead none = (λ q. none zero (x, refl, q), λ i has. none (suc i) has)
 
 pub points_decide : (p q : OutPoint) → Decides (same_point p q) (p ≡ q)
-points_decide p q = Decides-like (same_point p q) whole parts (Decides-and (bytes_eq p.tx q.tx) (p.index == q.index) (bytes_eq-Decides p.tx q.tx) (Decides-eqb p.index q.index))
+points_decide p q = Decides-like (same_point p q) whole parts
+    (Decides-and (bytes_eq p.tx q.tx) (p.index == q.index) (bytes_eq-Decides p.tx q.tx) (Decides-eqb p.index q.index))
   where
     whole : (p.tx ≡ q.tx) × (p.index ≡ q.index) → p ≡ q
     whole e = λ i. record { tx = e.0 i; index = e.1 i }
@@ -56,7 +58,9 @@ points_decide p q = Decides-like (same_point p q) whole parts (Decides-and (byte
 
 pub no_repeats : (xs : List Input) → Decides (are_distinct xs) ((i : ℕ) → ¬ (Repeats xs i))
 no_repeats [] = (λ pass i has. none_some has.0 has.1, λ none. refl)
-no_repeats (x ∷ xs) = Decides-like (new && are_distinct xs) behind ahead (Decides-and new (are_distinct xs) (none_has Has test (λ y. Decides-not (same_point x.point y.point) (points_decide x.point y.point)) xs) (no_repeats xs))
+no_repeats (x ∷ xs) = Decides-like (new && are_distinct xs) behind ahead
+    (Decides-and new (are_distinct xs) (none_has Has test (λ y. Decides-not (same_point x.point y.point) (points_decide x.point y.point)) xs)
+    (no_repeats xs))
   where
     Has : Input → Type 0
     Has y = x.point ≡ y.point
@@ -83,7 +87,8 @@ positive_decides n = Decides-like (nat_lt 0 n) (λ lt e. omega arith) (λ ne. om
 
 pub items_decide : {X : Type 0} → (xs : List X) → Decides (nat_lt 0 (length xs)) (¬ (xs ≡ []))
 items_decide [] = (λ pass. absurd cc, λ some. absurd (some refl))
-items_decide (x ∷ xs) = Decides-like (nat_lt 0 (length (x ∷ xs))) (λ lt e. let none : length (x ∷ xs) ≡ 0 = ap length e in omega arith) (λ some. omega arith) (Decides-ltb 0 (length (x ∷ xs)))
+items_decide (x ∷ xs) = Decides-like (nat_lt 0 (length (x ∷ xs))) (λ lt e. let none : length (x ∷ xs) ≡ 0 = ap length e in omega arith)
+    (λ some. omega arith) (Decides-ltb 0 (length (x ∷ xs)))
 
 pub not_bad_decides : (v : Verdict) → Decides (not (is_bad v)) (¬ (v ≡ Bad))
 not_bad_decides v = Decides-not (is_bad v) (bad v)
@@ -102,11 +107,13 @@ not_absent_decides v = Decides-not (is_absent v) (absent v)
     absent Absent = (λ e. refl, λ e. refl)
 
 -- no input has the verdict
-pub no_verdict : (wanted : Verdict) (test : Verdict → Bool) (each : (v : Verdict) → Decides (test v) (¬ (v ≡ wanted))) (inputs : List Input) (verdicts : Verdicts)
+pub no_verdict : (wanted : Verdict) (test : Verdict → Bool) (each : (v : Verdict) → Decides (test v) (¬ (v ≡ wanted))) (inputs : List Input)
+    (verdicts : Verdicts)
     → Decides (each_below (λ i. test (verdicts i)) (length inputs)) ((i : ℕ) → ¬ (HasVerdict wanted inputs verdicts i))
 no_verdict wanted test each inputs verdicts =
     Decides-like (each_below (λ i. test (verdicts i)) (length inputs)) (λ none i (lt, is). none i lt is) (λ none i lt is. none i (lt, is))
-    (Decides-below_and (λ i. test (verdicts i)) (λ i. ¬ (verdicts i ≡ wanted)) (each_below (λ i. test (verdicts i))) (λ i. each (verdicts i)) refl (λ n. refl) (length inputs))
+    (Decides-below_and (λ i. test (verdicts i)) (λ i. ¬ (verdicts i ≡ wanted)) (each_below (λ i. test (verdicts i))) (λ i. each (verdicts i)) refl
+    (λ n. refl) (length inputs))
 
 -- no input claims a burn output
 pub not_burn_decides : (k : Kind) → Decides (not (is_burn k)) (¬ (k ≡ Burn))
@@ -119,7 +126,8 @@ not_burn_decides k = Decides-not (is_burn k) (burn k)
 
 -- none and none, or one and one
 pub paired_decides : (ins outs : ℕ) → Decides (are_paired ins outs) (ArePaired ins outs)
-paired_decides ins outs = Decides-like (are_paired ins outs) whole parts (Decides-and (ins == outs) (nat_lt ins 2) (Decides-eqb ins outs) (Decides-ltb ins 2))
+paired_decides ins outs = Decides-like (are_paired ins outs) whole parts
+    (Decides-and (ins == outs) (nat_lt ins 2) (Decides-eqb ins outs) (Decides-ltb ins 2))
   where
     whole : (ins ≡ outs) × (ins < 2) → ArePaired ins outs
     whole h = grind (arith, h.0, h.1)
@@ -129,4 +137,5 @@ paired_decides ins outs = Decides-like (are_paired ins outs) whole parts (Decide
     parts (inr h) = (omega (arith, h.0, h.1), omega (arith, h.0))
 
 pub not_less_decides : (a b : ℕ) → Decides (not (nat_lt a b)) (b ≤ a)
-not_less_decides a b = Decides-like (not (nat_lt a b)) (λ none. elim (cases_lt a b) [ inl lt ↦ absurd (none lt) | inr le ↦ le ]) (λ le lt. omega (arith, le, lt)) (Decides-not (nat_lt a b) (Decides-ltb a b))
+not_less_decides a b = Decides-like (not (nat_lt a b)) (λ none. elim (cases_lt a b) [ inl lt ↦ absurd (none lt) | inr le ↦ le ])
+    (λ le lt. omega (arith, le, lt)) (Decides-not (nat_lt a b) (Decides-ltb a b))

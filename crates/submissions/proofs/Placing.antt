@@ -1,5 +1,6 @@
 -- A submission that is placed: what the lanes have then, and what is said of it.
-use Rattle.std.proofs.Common.{◌≡◌, ◌≢◌, ◌⊎◌, inl, inr, ℕ, suc, ◌+◌, ◌*◌, ◌%◌, ◌<◌, Bool, true, false, ◌==◌, List, [], ◌∷◌, ◌++◌, length, refl, ap, sym, ◌∙◌, subst, arith, Option, Some, None}
+use Rattle.std.proofs.Common.{◌≡◌, ◌≢◌, ◌⊎◌, inl, inr, ℕ, suc, ◌+◌, ◌*◌, ◌%◌, ◌<◌, Bool, true, false, ◌==◌, List, [], ◌∷◌, ◌++◌, length, refl, ap}
+use Rattle.std.proofs.Common.{sym, ◌∙◌, subst, arith, Option, Some, None}
 use Rattle.std.specs.Prelude.{slice_get, take, All, Contains}
 use Rattle.std.proofs.lemmas.List.Elements.{All-append, All-cons, All-nil}
 use Rattle.std.specs.Global.{Vec}
@@ -20,7 +21,8 @@ use Rattle.std.specs.Option.{IsSomeAnd}
 use Rattle.std.specs.Prelude.{MatchOption}
 use Rattle.std.proofs.lemmas.Slice.Zip.{AllZip-right}
 use Rattle.std.proofs.lemmas.Option.{slice_get_within}
-use Rattle.submissions.specs.Checks.{VerdictsOf, AllEmpty, TellsSound, IsRuled, IsRuling, IsDealtBy, IsDealtAt, AreSent, IsSentFrom, AreSentFrom, IsSaid}
+use Rattle.submissions.specs.Checks.{VerdictsOf, AllEmpty, TellsSound, IsRuled, IsRuling, IsDealtBy, IsDealtAt, AreSent, IsSentFrom, AreSentFrom}
+use Rattle.submissions.specs.Checks.{IsSaid}
 use Rattle.submissions.specs.declared.Ruled.{Ruled}
 use Rattle.submissions.specs.declared.Ruling.{Ruling}
 use Rattle.submissions.specs.declared.Ruling.TheVariants as ruling
@@ -30,7 +32,8 @@ use Rattle.submissions.specs.declared.Judgement.TheVariants.{Refused, Sound}
 use Rattle.submissions.proofs.Shares.{sent_if, sent_more}
 
 -- one empty list more
-pub empty_more : (lists all : List (Vec CompactTx)) (last : Vec CompactTx) → all ≡ lists ++ last ∷ [] → last.items ≡ [] → AllEmpty lists → AllEmpty all
+pub empty_more : (lists all : List (Vec CompactTx)) (last : Vec CompactTx) → all ≡ lists ++ last ∷ [] → last.items ≡ [] → AllEmpty lists
+    → AllEmpty all
 empty_more lists all last is none so = subst AllEmpty (sym is) (behind lists so)
   where
     behind : (xs : List (Vec CompactTx)) → AllEmpty xs → AllEmpty (xs ++ last ∷ [])
@@ -55,7 +58,8 @@ pub record IsPlaced (verdicts : VerdictsOf) (t : FullTx) (at : ℕ) (old new : L
   pub others : (lane : ℕ) → lane ≢ at → slice_get new lane ≡ slice_get old lane
 
 -- what was made of the transaction at a place
-pub ruled_at : (verdicts : VerdictsOf) (txs : List FullTx) (all : List Ruled) (i : ℕ) (one : Ruled) → AllZip (IsRuled verdicts) txs all → i < length all → one ≡ get_or all i one
+pub ruled_at : (verdicts : VerdictsOf) (txs : List FullTx) (all : List Ruled) (i : ℕ) (one : Ruled) → AllZip (IsRuled verdicts) txs all
+    → i < length all → one ≡ get_or all i one
     → (t : FullTx) × (i < length txs) × (t ≡ get_or txs i t) × IsRuled verdicts t one
 ruled_at verdicts txs all i one so within item = go (slice_get txs i) refl both
   where
@@ -63,9 +67,11 @@ ruled_at verdicts txs all i one so within item = go (slice_get txs i) refl both
     here = slice_get-get_or all i one within ∙ ap (λ x. Some x) (sym item)
 
     both : IsSomeAnd (slice_get txs i) (λ x. IsRuled verdicts x one)
-    both = subst (λ o. MatchOption o (Unit {0}) (λ y. IsSomeAnd (slice_get txs i) (λ x. IsRuled verdicts x y))) here (AllZip-right (IsRuled verdicts) txs all so i)
+    both = subst (λ o. MatchOption o (Unit {0}) (λ y. IsSomeAnd (slice_get txs i) (λ x. IsRuled verdicts x y))) here
+        (AllZip-right (IsRuled verdicts) txs all so i)
 
-    go : (o : Option FullTx) → slice_get txs i ≡ o → IsSomeAnd o (λ x. IsRuled verdicts x one) → (t : FullTx) × (i < length txs) × (t ≡ get_or txs i t) × IsRuled verdicts t one
+    go : (o : Option FullTx) → slice_get txs i ≡ o → IsSomeAnd o (λ x. IsRuled verdicts x one)
+        → (t : FullTx) × (i < length txs) × (t ≡ get_or txs i t) × IsRuled verdicts t one
     go (Some t) e p = (t, slice_get_within txs i t e, sym (get_or_from_slice_get txs i t t e), p)
     go None e p = absurd p
 
@@ -80,12 +86,16 @@ pub placed_by : (verdicts : VerdictsOf) (t : FullTx) (r : Ruled) (at : ℕ) (old
     → IsRuled verdicts t r → IsDealtAt r at old new c → IsPlaced verdicts t at old new c
 placed_by verdicts t r at old new c (id, ruled) dealt = record {
   count = dealt.count;
-  own = λ was list had has. ((dealt.own was list had has).0 ∙ id, given_by verdicts t r.ruling at was.items list.items c.judgement ruled (dealt.own was list had has).1);
+  own = λ was list had has. (
+    (dealt.own was list had has).0 ∙ id,
+    given_by verdicts t r.ruling at was.items list.items c.judgement ruled (dealt.own was list had has).1,
+  );
   others = dealt.others;
 }
 
 -- the list behind the judgement is what is sent there then
-given_list : (verdicts : VerdictsOf) (sound : FullTx → Bool) → TellsSound verdicts sound → (t : FullTx) (at : ℕ) (before after : List Compact) (j : Judgement)
+given_list : (verdicts : VerdictsOf) (sound : FullTx → Bool) → TellsSound verdicts sound
+    → (t : FullTx) (at : ℕ) (before after : List Compact) (j : Judgement)
     → IsGiven verdicts t at before after j → after ≡ before ++ sent_if true (sound t) t
 given_list verdicts sound tells t at before after (Refused r) (first, same) = go (sound t) refl
   where
@@ -107,62 +117,77 @@ placed_sent K verdicts file t at old new c is within sent placed sound tells lan
         → list.items ≡ sent_to K sound (file ++ t ∷ []) lane
     grown b e so = (so ∙ ap (λ x. sent_to K sound file lane ++ sent_if x (sound t) t) (sym e)) ∙ sym (sent_more K sound file t lane)
 
-    go : (((length file % n == lane) ≡ true) × (length file % n ≡ lane)) ⊎ (((length file % n == lane) ≡ false) × (length file % n ≢ lane)) → list.items ≡ sent_to K sound (file ++ t ∷ []) lane
+    go : (((length file % n == lane) ≡ true) × (length file % n ≡ lane)) ⊎ (((length file % n == lane) ≡ false) × (length file % n ≢ lane))
+        → list.items ≡ sent_to K sound (file ++ t ∷ []) lane
     go (inl (b, e)) =
         let here : lane ≡ at = sym e ∙ sym is in
         let was = get_or old at list in
         let had : slice_get old at ≡ Some was = slice_get-get_or old at list within in
         let own = placed.own was list had (subst (λ m. slice_get new m ≡ Some list) here there) in
-        let before : was.items ≡ sent_to K sound file lane = subst (λ m. was.items ≡ sent_to K sound file m) (sym here) (sent sound tells at was had) in
+        let before : was.items ≡ sent_to K sound file lane = subst (λ m. was.items ≡ sent_to K sound file m) (sym here) (sent sound tells at was had)
+        in
         grown true b (given_list verdicts sound tells t at was.items list.items c.judgement own.1 ∙ ap (λ l. l ++ sent_if true (sound t) t) before)
     go (inr (b, e)) =
         let other : lane ≢ at = λ h. e (sym is ∙ sym h) in
         let same : slice_get old lane ≡ Some list = sym (placed.others lane other) ∙ there in
         grown false b (sent sound tells lane list same ∙ sym (append-nil (sent_to K sound file lane)))
 
-said_by : (K : Shape) (verdicts : VerdictsOf) (all file : List FullTx) (t : FullTx) (at : ℕ) (was : Vec CompactTx) (after : List Compact) (j : Judgement)
+said_by : (K : Shape) (verdicts : VerdictsOf) (all file : List FullTx) (t : FullTx) (at : ℕ) (was : Vec CompactTx) (after : List Compact)
+    (j : Judgement)
     → at ≡ length file % (K.coordinators * K.lanes) → ((sound : FullTx → Bool) → TellsSound verdicts sound → was.items ≡ sent_to K sound file at)
     → IsGiven verdicts t at was.items after j → file ≡ take (length file) all → IsSaid K verdicts all (length file) t j
 said_by K verdicts all file t at was after (Refused r) is had (first, same) front = first
-said_by K verdicts all file t at was after (Sound lane place) is had (sound_is, e0, e1, grown) front =
-    (sound_is, e0 ∙ is, λ sound tells. e1 ∙ ap (λ l. length l) (had sound tells) ∙ ap (λ l. length (sent_to K sound file l)) (sym e0) ∙ ap (λ f. length (sent_to K sound f lane)) front)
+said_by K verdicts all file t at was after (Sound lane place) is had (sound_is, e0, e1, grown) front = (
+  sound_is,
+  e0 ∙ is,
+  λ sound tells. e1 ∙ ap (λ l. length l) (had sound tells) ∙ ap (λ l. length (sent_to K sound file l)) (sym e0)
+      ∙ ap (λ f. length (sent_to K sound f lane)) front,
+)
 
 pub placed_said : (K : Shape) (verdicts : VerdictsOf) (all file : List FullTx) (t : FullTx) (at : ℕ) (old new : List (Vec CompactTx)) (c : Checked)
     → at ≡ length file % (K.coordinators * K.lanes) → at < length old → length new ≡ length old → file ≡ take (length file) all
     → AreSent K verdicts file old → IsPlaced verdicts t at old new c → (c.id ≡ tx_id t) × IsSaid K verdicts all (length file) t c.judgement
 placed_said K verdicts all file t at old new c is within count front sent placed = go (slice_get_cases old at).1
   where
-    behind : (was : Vec CompactTx) → slice_get old at ≡ Some was → ((now : Vec CompactTx) × (at < length new) × (slice_get new at ≡ Some now) × (get_or new at now ≡ now)) ⊎ ((length new ≤ at) × (slice_get new at ≡ None))
+    behind : (was : Vec CompactTx) → slice_get old at ≡ Some was
+        → ((now : Vec CompactTx) × (at < length new) × (slice_get new at ≡ Some now) × (get_or new at now ≡ now))
+        ⊎ ((length new ≤ at) × (slice_get new at ≡ None))
         → (c.id ≡ tx_id t) × IsSaid K verdicts all (length file) t c.judgement
     behind was had (inl (now, w, has, e)) =
         let own = placed.own was now had has in
         (own.0, said_by K verdicts all file t at was now.items c.judgement is (λ sound tells. sent sound tells at was had) own.1 front)
     behind was had (inr (past, e)) = absurd (omega (arith, past, within, count))
 
-    go : ((was : Vec CompactTx) × (at < length old) × (slice_get old at ≡ Some was) × (get_or old at was ≡ was)) ⊎ ((length old ≤ at) × (slice_get old at ≡ None))
+    go : ((was : Vec CompactTx) × (at < length old) × (slice_get old at ≡ Some was) × (get_or old at was ≡ was))
+        ⊎ ((length old ≤ at) × (slice_get old at ≡ None))
         → (c.id ≡ tx_id t) × IsSaid K verdicts all (length file) t c.judgement
     go (inl (was, w, had, e)) = behind was had (slice_get_cases new at).1
     go (inr (past, e)) = absurd (omega (arith, past, within))
 
 -- an item of a list with one more at its end
-pub snoc_get : {A : Type 0} (xs : List A) (x c : A) (j : ℕ) → slice_get (xs ++ x ∷ []) j ≡ Some c → (slice_get xs j ≡ Some c) ⊎ ((j ≡ length xs) × (c ≡ x))
+pub snoc_get : {A : Type 0} (xs : List A) (x c : A) (j : ℕ) → slice_get (xs ++ x ∷ []) j ≡ Some c
+    → (slice_get xs j ≡ Some c) ⊎ ((j ≡ length xs) × (c ≡ x))
 snoc_get [] x c zero e = inr (refl, cc)
 snoc_get [] x c (suc j) e = inl e
 snoc_get (y ∷ ys) x c zero e = inl e
 snoc_get (y ∷ ys) x c (suc j) e = elim (snoc_get ys x c j e) [ inl h ↦ inl h | inr (a, b) ↦ inr (ap (λ n. suc n) a, b) ]
 
 -- what is known when the submissions before place i are placed
-pub record PlacedTo (K : Shape) (verdicts : VerdictsOf) (all : List FullTx) (i : ℕ) (lanes : List (Vec CompactTx)) (checked : List Checked) : Type 0 where
-  pub sent : AreSent K verdicts (take i all) lanes
-  pub count : length checked ≡ i
-  pub each : (j : ℕ) (t : FullTx) (c : Checked) → slice_get all j ≡ Some t → slice_get checked j ≡ Some c → (c.id ≡ tx_id t) × IsSaid K verdicts all j t c.judgement
+pub record PlacedTo (K : Shape) (verdicts : VerdictsOf) (all : List FullTx) (i : ℕ) (lanes : List (Vec CompactTx)) (checked : List Checked) : Type 0
+  where
+    pub sent : AreSent K verdicts (take i all) lanes
+    pub count : length checked ≡ i
+    pub each : (j : ℕ) (t : FullTx) (c : Checked) → slice_get all j ≡ Some t → slice_get checked j ≡ Some c
+        → (c.id ≡ tx_id t) × IsSaid K verdicts all j t c.judgement
 
-pub goes_on : (K : Shape) (verdicts : VerdictsOf) (all : List FullTx) (i : ℕ) (t : FullTx) (at : ℕ) (old new : List (Vec CompactTx)) (checked : List Checked) (c : Checked)
+pub goes_on : (K : Shape) (verdicts : VerdictsOf) (all : List FullTx) (i : ℕ) (t : FullTx) (at : ℕ) (old new : List (Vec CompactTx))
+    (checked : List Checked) (c : Checked)
     → i < length all → t ≡ get_or all i t → at ≡ i % (K.coordinators * K.lanes) → at < length old
     → PlacedTo K verdicts all i old checked → IsPlaced verdicts t at old new c → PlacedTo K verdicts all (i + 1) new (checked ++ c ∷ [])
 goes_on K verdicts all i t at old new checked c inside item is within so placed =
     let size : length (take i all) ≡ i = length-take-le i all (omega arith) in
-    let front : take (i + 1) all ≡ take i all ++ t ∷ [] = ap (λ n. take n all) (add-one i) ∙ take-suc all i t inside ∙ ap (λ x. take i all ++ x ∷ []) (sym item) in
+    let front : take (i + 1) all ≡ take i all ++ t ∷ [] =
+    ap (λ n. take n all) (add-one i) ∙ take-suc all i t inside ∙ ap (λ x. take i all ++ x ∷ []) (sym item) in
     let at_is : at ≡ length (take i all) % (K.coordinators * K.lanes) = is ∙ ap (λ n. n % (K.coordinators * K.lanes)) (sym size) in
     let said = placed_said K verdicts all (take i all) t at old new c at_is within placed.count (ap (λ n. take n all) (sym size)) so.sent placed in
     record {
@@ -187,9 +212,11 @@ more_from : (verdicts : VerdictsOf) (all : List FullTx) (t : FullTx) (at : ℕ) 
 more_from verdicts all t at before after (Refused r) inside (first, same) so = subst (λ l. All (IsSentFrom verdicts all) l) (sym same) so
 more_from verdicts all t at before after (Sound lane place) inside (is, e0, e1, grown) so =
     subst (λ l. All (IsSentFrom verdicts all) l) (sym grown)
-    (All-append (IsSentFrom verdicts all) before (compact t ∷ []) so (All-cons (IsSentFrom verdicts all) (compact t) [] (t, inside, is, refl) (All-nil (IsSentFrom verdicts all))))
+    (All-append (IsSentFrom verdicts all) before (compact t ∷ []) so
+    (All-cons (IsSentFrom verdicts all) (compact t) [] (t, inside, is, refl) (All-nil (IsSentFrom verdicts all))))
 
-pub placed_from : (verdicts : VerdictsOf) (all : List FullTx) (t : FullTx) (at : ℕ) (old new : List (Vec CompactTx)) (c : Checked) → Contains all t → at < length old
+pub placed_from : (verdicts : VerdictsOf) (all : List FullTx) (t : FullTx) (at : ℕ) (old new : List (Vec CompactTx)) (c : Checked) → Contains all t
+    → at < length old
     → AreSentFrom verdicts all old → IsPlaced verdicts t at old new c → AreSentFrom verdicts all new
 placed_from verdicts all t at old new c inside within so placed lane list there = go (eqb_tells lane at)
   where
@@ -197,5 +224,6 @@ placed_from verdicts all t at old new c inside within so placed lane list there 
     go (inl (b, e)) =
         let was = get_or old at list in
         let had : slice_get old at ≡ Some was = slice_get-get_or old at list within in
-        more_from verdicts all t at was.items list.items c.judgement inside (placed.own was list had (subst (λ m. slice_get new m ≡ Some list) e there)).1 (so at was had)
+        more_from verdicts all t at was.items list.items c.judgement inside
+        (placed.own was list had (subst (λ m. slice_get new m ≡ Some list) e there)).1 (so at was had)
     go (inr (b, d)) = so lane list (sym (placed.others lane d) ∙ there)

@@ -1,5 +1,6 @@
 -- What is sent to a lane when a file has one submission more.
-use Rattle.std.proofs.Common.{◌≡◌, ℕ, suc, ◌+◌, ◌*◌, ◌%◌, Bool, true, false, ◌==◌, List, [], ◌∷◌, ◌++◌, length, map, if◌then◌else◌, refl, ap, ◌∙◌, arith}
+use Rattle.std.proofs.Common.{◌≡◌, ℕ, suc, ◌+◌, ◌*◌, ◌%◌, Bool, true, false, ◌==◌, List, [], ◌∷◌, ◌++◌, length, map, if◌then◌else◌, refl, ap, ◌∙◌}
+use Rattle.std.proofs.Common.{arith}
 use Rattle.std.specs.List.{filter}
 use Rattle.std.proofs.lemmas.List.Elements.{filter-append}
 use Rattle.std.proofs.lemmas.List.{map-append}
@@ -11,11 +12,13 @@ use Rattle.cbdc_model.specs.Waves.{share, sent_to}
 abbrev pub only_if : {A : Type 0} → Bool → A → List A
 only_if b x = if b then x ∷ [] else []
 
-front : {A : Type 0} (b : Bool) (y : A) (new old more : List A) → new ≡ old ++ more → (if b then y ∷ new else new) ≡ (if b then y ∷ old else old) ++ more
+front : {A : Type 0} (b : Bool) (y : A) (new old more : List A) → new ≡ old ++ more
+    → (if b then y ∷ new else new) ≡ (if b then y ∷ old else old) ++ more
 front true y new old more e = ap (λ l. y ∷ l) e
 front false y new old more e = e
 
-pub share_more : {A : Type 0} (n lane k : ℕ) (xs : List A) (x : A) → share n lane k (xs ++ x ∷ []) ≡ share n lane k xs ++ only_if ((k + length xs) % n == lane) x
+pub share_more : {A : Type 0} (n lane k : ℕ) (xs : List A) (x : A)
+    → share n lane k (xs ++ x ∷ []) ≡ share n lane k xs ++ only_if ((k + length xs) % n == lane) x
 share_more n lane k [] x = ap (λ j. only_if (j % n == lane) x) (omega arith)
 share_more n lane k (y ∷ ys) x =
     front (k % n == lane) y _ _ _ (share_more n lane (suc k) ys x ∙ ap (λ j. share n lane (suc k) ys ++ only_if (j % n == lane) x) (omega arith))

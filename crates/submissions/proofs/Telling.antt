@@ -4,16 +4,20 @@ use Rattle.std.specs.Prelude.{Decides}
 use Rattle.std.specs.Cmp.{both_ways}
 use Rattle.std.proofs.lemmas.Bool.{cases_lt, cases_Bool}
 use Rattle.std.proofs.lemmas.Bool.Decides.{Decides-eqb, Decides-ltb, Decides-like, Decides-and, not_from_Decides}
-use Rattle.base_types.specs.declared.faults.Refusal.TheVariants.{NoInputs, NoOutputs, WitnessCount, RepeatedInput, ZeroInput, ZeroOutput, InputOverflow, OutputOverflow, Unbalanced, BurnedInput, PermitCount, PermitRaised, BadWitness, Unverified}
+use Rattle.base_types.specs.declared.faults.Refusal.TheVariants.{NoInputs, NoOutputs, WitnessCount, RepeatedInput, ZeroInput, ZeroOutput}
+use Rattle.base_types.specs.declared.faults.Refusal.TheVariants.{InputOverflow, OutputOverflow, Unbalanced, BurnedInput, PermitCount, PermitRaised}
+use Rattle.base_types.specs.declared.faults.Refusal.TheVariants.{BadWitness, Unverified}
 use Rattle.cbdc_types.specs.Kinds.{kind_of}
 use Rattle.cbdc_types.specs.declared.tx.Kind.TheVariants.{Burn}
 use Rattle.cbdc_model.specs.Coins.{Input, FullTx, tx_id}
 use Rattle.cbdc_model.specs.Money.{ArePaired}
 use Rattle.sentinel.specs.declared.verifier.Verdict.TheVariants.{Bad, Absent}
-use Rattle.sentinel.specs.FirstRefusal.{Verdicts, HasAt, HasVerdict, Repeats, input_sum, output_sum, permits_in, permits_out, issuable_in, issuable_out, IsSoundTx}
+use Rattle.sentinel.specs.FirstRefusal.{Verdicts, HasAt, HasVerdict, Repeats, input_sum, output_sum, permits_in, permits_out, issuable_in}
+use Rattle.sentinel.specs.FirstRefusal.{issuable_out, IsSoundTx}
 use Rattle.sentinel.proofs.PermitSums.{among_none, paired_or_not}
 use Rattle.submissions.specs.SoundTest.{is_burn, is_bad, is_absent, is_sound, IsSoundLaw, SoundTestLaw, OneTestLaw}
-use Rattle.submissions.proofs.Parts.{no_place, none_has, no_repeats, positive_decides, items_decide, not_burn_decides, paired_decides, not_less_decides, not_bad_decides, not_absent_decides, no_verdict}
+use Rattle.submissions.proofs.Parts.{no_place, none_has, no_repeats, positive_decides, items_decide, not_burn_decides, paired_decides}
+use Rattle.submissions.proofs.Parts.{not_less_decides, not_bad_decides, not_absent_decides, no_verdict}
 
 -- a reason with two unlike numbers does not apply: they are one
 agreed : (a b : ℕ) → ¬ (a ≢ b) → a ≡ b
@@ -110,9 +114,28 @@ module _ (t : FullTx) (v : Verdicts) where
         none_bad = j;
         none_absent = k;
       }))
-      (λ none. let p = passes_from none in
-      (((((((((((((p.inputs, p.outputs), p.witnesses), p.distinct), p.inputs_count), p.outputs_count), p.inputs_fit), p.outputs_fit), p.balanced), p.none_burnt), p.permits), p.not_raised), p.none_bad), p.none_absent))
-      (Decides-and _ _ (Decides-and _ _ (Decides-and _ _ (Decides-and _ _ (Decides-and _ _ (Decides-and _ _ (Decides-and _ _ (Decides-and _ _ (Decides-and _ _ (Decides-and _ _ (Decides-and _ _ (Decides-and _ _ (Decides-and _ _
+      (λ none. let p = passes_from none in (
+        (
+          (
+            (
+              (
+                (
+                  (((((((p.inputs, p.outputs), p.witnesses), p.distinct), p.inputs_count), p.outputs_count), p.inputs_fit), p.outputs_fit),
+                  p.balanced,
+                ),
+                p.none_burnt,
+              ),
+              p.permits,
+            ),
+            p.not_raised,
+          ),
+          p.none_bad,
+        ),
+        p.none_absent,
+      ))
+      (Decides-and _ _ (Decides-and _ _ (Decides-and _ _
+      (Decides-and _ _ (Decides-and _ _ (Decides-and _ _
+      (Decides-and _ _ (Decides-and _ _ (Decides-and _ _ (Decides-and _ _ (Decides-and _ _ (Decides-and _ _ (Decides-and _ _
       (items_decide t.inputs)
       (items_decide t.outputs))
       (Decides-eqb (length t.witnesses) (length t.inputs)))

@@ -86,7 +86,8 @@ IsSaid K verdicts file j t (Sound lane place) =
 -- as many as there are submissions, each with its id and what is said of it
 pub record AreChecked (K : Shape) (verdicts : VerdictsOf) (file : List FullTx) (checked : List Checked) : Type 0 where
   pub count : length checked ≡ length file
-  pub each : (j : ℕ) (t : FullTx) (c : Checked) → slice_get file j ≡ Some t → slice_get checked j ≡ Some c → (c.id ≡ tx_id t) × IsSaid K verdicts file j t c.judgement
+  pub each : (j : ℕ) (t : FullTx) (c : Checked) → slice_get file j ≡ Some t → slice_get checked j ≡ Some c
+      → (c.id ≡ tx_id t) × IsSaid K verdicts file j t c.judgement
 
 -- what becomes of a file's submissions: a list for each lane of what is sent to it, sound alone; and what is said of each
 pub record AreSubmitted (K : Shape) (verdicts : VerdictsOf) (file : List FullTx) (s : Submitted) : Type 0 where

@@ -1,5 +1,6 @@
 -- A turn at checked journals: they are checked still, they have grown by records of the lane alone, and its fault has its cause.
-use Rattle.std.proofs.Common.{◌≡◌, ◌≢◌, ◌⊎◌, ◌==◌, inl, inr, ℕ, ◌<◌, true, false, List, [], ◌∷◌, ◌++◌, Some, refl, sym, ap, ◌∙◌, subst, append_assoc, arith}
+use Rattle.std.proofs.Common.{◌≡◌, ◌≢◌, ◌⊎◌, ◌==◌, inl, inr, ℕ, ◌<◌, true, false, List, [], ◌∷◌, ◌++◌, Some, refl, sym, ap, ◌∙◌, subst, append_assoc}
+use Rattle.std.proofs.Common.{arith}
 use Rattle.std.proofs.lemmas.Bool.Decides.{eqb_tells}
 use Rattle.cbdc_types.specs.Limits.{IsWithinLimits}
 use Rattle.cbdc_types.specs.declared.batch.OpenLane.{OpenLane}
@@ -18,7 +19,8 @@ use Rattle.lane_laws.specs.Batches.{own}
 use Rattle.lane_laws.specs.Faults.{IsAnswered, IsCallFault, to_lock, to_decide, to_finish, to_discard, to_forget, to_done}
 use Rattle.lane_laws.specs.Resuming.{IsTakenUp}
 use Rattle.lane_driver.specs.declared.fault.LaneFault.{LaneFault}
-use Rattle.lane_driver.specs.declared.fault.LaneFaultKind.TheVariants.{DiskFault as DiskStopped, Full as NoRoom, ClockEnd as NoStamp, Memory as NoMemory}
+use Rattle.lane_driver.specs.declared.fault.LaneFaultKind.TheVariants.{DiskFault as DiskStopped, Full as NoRoom, ClockEnd as NoStamp}
+use Rattle.lane_driver.specs.declared.fault.LaneFaultKind.TheVariants.{Memory as NoMemory}
 use Rattle.lane_driver.specs.Faults.{IsLaneFaultOf}
 use Rattle.lane_driver.specs.Told.{KeepNodes}
 use Rattle.coord_log.specs.OpenLanes.{open_lane}
@@ -36,7 +38,8 @@ use Rattle.run_laws.proofs.TurnKinds.{taken_law, prepared_law}
 use Rattle.run_laws.proofs.Stopping.{stop_law}
 use Rattle.ledger_runs.specs.Pieces.{HasPreparedPieces}
 use Rattle.ledger_runs.specs.Turning.{lane_phase}
-use Rattle.ledger_runs.specs.Faults.{AreOfLane, GrowBy, IsWanted, wants_prepare, wants_lock, IsLaneCause, IsOpenCause, HaveFailed, MayHoldBytes, Nothing, LaneWaits}
+use Rattle.ledger_runs.specs.Faults.{AreOfLane, GrowBy, IsWanted, wants_prepare, wants_lock, IsLaneCause, IsOpenCause, HaveFailed, MayHoldBytes}
+use Rattle.ledger_runs.specs.Faults.{Nothing, LaneWaits}
 use Rattle.thread_laws.specs.Nodes.{AreNodes}
 use Rattle.thread_laws.proofs.Headers.{are_journals}
 use Rattle.thread_laws.proofs.OpenThere.{told_lane, unfinished}
@@ -63,54 +66,59 @@ module _ (K : Shape) (pieces : List (List Compact)) (lane : ℕ) (I J : ℕ → 
 -- ---- causes
 
 -- what a lane needs next, by the journals at its stop
-wanted_of : (K : Shape) (lane : ℕ) (next : List Compact → Type 0) (J : ℕ → List Record) (node : ℕ) (r : Record) → IsNext K lane next J node r → IsWanted K lane next J node (J node) r
+wanted_of : (K : Shape) (lane : ℕ) (next : List Compact → Type 0) (J : ℕ → List Record) (node : ℕ) (r : Record) → IsNext K lane next J node r
+    → IsWanted K lane next J node (J node) r
 wanted_of K lane next J node r (next_prepare txs due at idle e) = wants_prepare txs due at (subst (λ n. (slot (J n) lane).phase ≡ Idle) at idle) e
 wanted_of K lane next J node r (next_lock b t txs s is at concerned phase stands have behind e) =
-    wants_lock b t txs s is at concerned (subst (λ l. (slot (J (home_of K l)) l).phase ≡ InPrepare) is phase) (subst (λ l. record_of 6 (J (home_of K l)) b ≡ Some (Prepare t b txs)) is stands) have
+    wants_lock b t txs s is at concerned (subst (λ l. (slot (J (home_of K l)) l).phase ≡ InPrepare) is phase)
+    (subst (λ l. record_of 6 (J (home_of K l)) b ≡ Some (Prepare t b txs)) is stands) have
     (subst (λ l. (slot (J node) l).number < b.number) is behind) e
 
-module _ (K : Shape) (lane : ℕ) (next : List Compact → Type 0) (I J : ℕ → List Record) (opened faults capacity : ℕ → ℕ) (grown : GrowBy lane I J) where
-  abbrev Causes : LaneFault → Type 0
-  Causes e = IsLaneCause K lane next I J (HaveFailed opened faults) (MayHoldBytes capacity) e
+module _ (K : Shape) (lane : ℕ) (next : List Compact → Type 0) (I J : ℕ → List Record) (opened faults capacity : ℕ → ℕ) (grown : GrowBy lane I J)
+  where
+    abbrev Causes : LaneFault → Type 0
+    Causes e = IsLaneCause K lane next I J (HaveFailed opened faults) (MayHoldBytes capacity) e
 
-  failed : (e : LaneFault) (node : ℕ) → e ≡ record { node = node; fault = DiskStopped } → HasFailed K lane next J opened faults node → Causes e
-  failed e node is h = subst Causes (sym is) (record { inside = h.node_is; asked = h.asked; did = h.rose })
+    failed : (e : LaneFault) (node : ℕ) → e ≡ record { node = node; fault = DiskStopped } → HasFailed K lane next J opened faults node → Causes e
+    failed e node is h = subst Causes (sym is) (record { inside = h.node_is; asked = h.asked; did = h.rose })
 
-  no_stamp : (e : LaneFault) (node stamp : ℕ) → e ≡ record { node = node; fault = NoStamp stamp } → HasNoStamp K lane next J node stamp → Causes e
-  no_stamp e node stamp is h = subst Causes (sym is) (record {
-    front = J node;
-    since = ((grown node).0, (grown node).1);
-    within = end_self (J node);
-    still = refl;
-    wanted = h.wanted;
-    is_wanted = wanted_of K lane next J node h.wanted h.is_next;
-    stamp_is = h.stamp_is;
-    above = h.above;
-  })
+    no_stamp : (e : LaneFault) (node stamp : ℕ) → e ≡ record { node = node; fault = NoStamp stamp } → HasNoStamp K lane next J node stamp → Causes e
+    no_stamp e node stamp is h = subst Causes (sym is) (record {
+      front = J node;
+      since = ((grown node).0, (grown node).1);
+      within = end_self (J node);
+      still = refl;
+      wanted = h.wanted;
+      is_wanted = wanted_of K lane next J node h.wanted h.is_next;
+      stamp_is = h.stamp_is;
+      above = h.above;
+    })
 
-  no_room : (e : LaneFault) (node used need limit : ℕ) → e ≡ record { node = node; fault = NoRoom used need limit } → HasNoRoom K lane next J (capacity node) node used need limit → Causes e
-  no_room e node used need limit is h = subst Causes (sym is) (record {
-    front = J node;
-    since = ((grown node).0, (grown node).1);
-    within = end_self (J node);
-    still = refl;
-    wanted = h.wanted;
-    is_wanted = wanted_of K lane next J node h.wanted h.is_next;
-    early = h.early;
-    capacity_is = h.limit_is;
-    used_is = h.used_is;
-    need_is = h.need_is;
-    above = h.above;
-  })
+    no_room : (e : LaneFault) (node used need limit : ℕ) → e ≡ record { node = node; fault = NoRoom used need limit }
+        → HasNoRoom K lane next J (capacity node) node used need limit → Causes e
+    no_room e node used need limit is h = subst Causes (sym is) (record {
+      front = J node;
+      since = ((grown node).0, (grown node).1);
+      within = end_self (J node);
+      still = refl;
+      wanted = h.wanted;
+      is_wanted = wanted_of K lane next J node h.wanted h.is_next;
+      early = h.early;
+      capacity_is = h.limit_is;
+      used_is = h.used_is;
+      need_is = h.need_is;
+      above = h.above;
+    })
 
-  -- where the lane may wait because memory ran out
-  free_cause : (e : LaneFault) (node : ℕ) (f : NodeFault) → IsLaneFaultOf e node f → IsStopBy K lane next J opened faults capacity node f → (f ≡ Memory → LaneWaits K lane I J) → ((e.fault ≡ NoMemory) × LaneWaits K lane I J) ⊎ Causes e
-  free_cause e node (Broken since) is h waits = inr (failed e node is h)
-  free_cause e node (Refuses why) is h waits = absurd h
-  free_cause e node (ClockEnd stamp) is h waits = inr (no_stamp e node stamp is h)
-  free_cause e node (Full used need limit) is h waits = inr (no_room e node used need limit is h)
-  free_cause e node DiskFault is h waits = inr (failed e node is h)
-  free_cause e node Memory is h waits = inl (ap (λ x. x.fault) is, waits refl)
+    -- where the lane may wait because memory ran out
+    free_cause : (e : LaneFault) (node : ℕ) (f : NodeFault) → IsLaneFaultOf e node f → IsStopBy K lane next J opened faults capacity node f
+        → (f ≡ Memory → LaneWaits K lane I J) → ((e.fault ≡ NoMemory) × LaneWaits K lane I J) ⊎ Causes e
+    free_cause e node (Broken since) is h waits = inr (failed e node is h)
+    free_cause e node (Refuses why) is h waits = absurd h
+    free_cause e node (ClockEnd stamp) is h waits = inr (no_stamp e node stamp is h)
+    free_cause e node (Full used need limit) is h waits = inr (no_room e node used need limit is h)
+    free_cause e node DiskFault is h waits = inr (failed e node is h)
+    free_cause e node Memory is h waits = inl (ap (λ x. x.fault) is, waits refl)
 
 -- ---- out of memory
 
@@ -119,12 +127,15 @@ pub never_memory : {A : Type 0} (due : Due A) (now : Sight) (f : NodeFault) → 
 never_memory due now f memory h = let z : false ≡ true = subst (λ x. IsAnswered false due now x) memory h in cc
 
 -- so behind a Prepare it is answered to a Lock
-pub in_prepare : (K : Shape) (b : Batch) (txs : List Compact) (log : Sight) (shards : ℕ → Sight) (node : ℕ) (f : NodeFault) → f ≡ Memory → IsCallFault K b txs log shards node f → (slot log.seen b.lane).phase ≡ InPrepare
+pub in_prepare : (K : Shape) (b : Batch) (txs : List Compact) (log : Sight) (shards : ℕ → Sight) (node : ℕ) (f : NodeFault) → f ≡ Memory
+    → IsCallFault K b txs log shards node f → (slot log.seen b.lane).phase ≡ InPrepare
 in_prepare K b txs log shards node f memory (to_lock s t at concerned phase stands had answered) = phase
 in_prepare K b txs log shards node f memory (to_decide replies at phase had cause answered) = phase
-in_prepare K b txs log shards node f memory (to_finish s t os at concerned phase stands had answered) = absurd (never_memory _ (shards s) f memory answered)
+in_prepare K b txs log shards node f memory (to_finish s t os at concerned phase stands had answered) =
+    absurd (never_memory _ (shards s) f memory answered)
 in_prepare K b txs log shards node f memory (to_discard cause at phase had latest answered) = absurd (never_memory _ log f memory answered)
-in_prepare K b txs log shards node f memory (to_forget s t at concerned phase stands had answered) = absurd (never_memory _ (shards s) f memory answered)
+in_prepare K b txs log shards node f memory (to_forget s t at concerned phase stands had answered) =
+    absurd (never_memory _ (shards s) f memory answered)
 in_prepare K b txs log shards node f memory (to_done cause at phase had latest answered) = absurd (never_memory _ log f memory answered)
 
 pub own_slot : (lane : ℕ) (L M : List Record) → own lane M ≡ own lane L → slot M lane ≡ slot L lane
@@ -138,7 +149,8 @@ pub record IsCheckedTurn (K : Shape) (m : Minted) (lane : ℕ) (I J : ℕ → Li
   pub grows : GrowBy lane I J
 
 module _ (K : Shape) (lane : ℕ) (logs shards logs' shards' : ℕ → Sight) (limits : IsWithinLimits K) (home : home_of K lane < K.coordinators)
-    (shape : (logs (home_of K lane)).header.shape ≡ K) (shard_shapes : (s : ℕ) → s < K.shards → (shards' s).header.shape ≡ K) (elsewhere : Elsewhere K lane logs logs')
+    (shape : (logs (home_of K lane)).header.shape ≡ K) (shard_shapes : (s : ℕ) → s < K.shards → (shards' s).header.shape ≡ K)
+    (elsewhere : Elsewhere K lane logs logs')
     (nodes : AreNodes K logs shards) (nodes' : AreNodes K logs' shards') (log_nodes : KeepNodes logs logs') (shard_nodes : KeepNodes shards shards')
     (m : Minted) (checked : CheckedJournals K m (seen_by K logs shards)) where
   abbrev I : ℕ → List Record
@@ -187,7 +199,8 @@ module _ (K : Shape) (lane : ℕ) (logs shards logs' shards' : ℕ → Sight) (l
 
     -- the phase is that of its journal
     prepared_still : (slot log'.seen o.batch.lane).phase ≡ InPrepare → lane_phase K J lane ≡ InPrepare
-    prepared_still phase = ap (λ L. (slot L lane).phase) (seen_log K logs' shards' (home_of K lane) home) ∙ subst (λ l. (slot log'.seen l).phase ≡ InPrepare) lane_is phase
+    prepared_still phase = ap (λ L. (slot L lane).phase) (seen_log K logs' shards' (home_of K lane) home)
+        ∙ subst (λ l. (slot log'.seen l).phase ≡ InPrepare) lane_is phase
 
     pub still : IsBatchUnfinished o.phase K o log shards
     still = unfinished K lane log shards o told (checked_resume_law K m lane logs shards limits.some_shard home shape checked)
@@ -201,7 +214,8 @@ module _ (K : Shape) (lane : ℕ) (logs shards logs' shards' : ℕ → Sight) (l
         turned [] ((taken_law K lane logs shards logs' shards' elsewhere).3 o.batch s.0 s.1 lane_is s.3)
 
     -- an open batch that was taken up, or left, is what the lane had prepared before
-    pub taken_unprepared : (IsBatchUnfinished o.phase K o log shards → IsTakenUp K true o.batch log shards log' shards') → HasPreparedPieces K lane [] I J
+    pub taken_unprepared : (IsBatchUnfinished o.phase K o log shards → IsTakenUp K true o.batch log shards log' shards')
+        → HasPreparedPieces K lane [] I J
     taken_unprepared taken = unprepared ((taken_law K lane logs shards logs' shards' elsewhere).2 o.batch lane_is (taken still))
 
     pub left_unprepared : (e : LaneFault) → IsResumeStopped K true o log shards log' shards' e → HasPreparedPieces K lane [] I J

@@ -1,5 +1,6 @@
 -- A Prepare in flight behind a wave of lanes that ran beside each other was so before, or is of its lane's next piece.
-use Rattle.std.proofs.Common.{◌≡◌, inl, inr, ℕ, zero, suc, ◌*◌, ◌/◌, ◌<◌, true, false, List, [], ◌∷◌, Contains, Option, Some, None, sym, ap, ◌∙◌, subst, slice_index_or, arith}
+use Rattle.std.proofs.Common.{◌≡◌, inl, inr, ℕ, zero, suc, ◌*◌, ◌/◌, ◌<◌, true, false, List, [], ◌∷◌, Contains, Option, Some, None, sym, ap, ◌∙◌}
+use Rattle.std.proofs.Common.{subst, slice_index_or, arith}
 use Rattle.std.specs.Prelude.{take}
 use Rattle.std.proofs.lemmas.Nat.{div_below}
 use Rattle.cbdc_types.specs.Limits.{IsWithinLimits}
@@ -36,7 +37,8 @@ home_inside lane coordinators zero lt = absurd (omega (arith, lt))
 home_inside lane coordinators (suc lanes) lt = div_below lane (suc lanes) coordinators (omega arith) lt
 
 -- a Prepare that may come next at a node is of a lane of the ledger whose coordinator that is, and which is idle
-module _ (K : Shape) (m : Minted) (J : ℕ → List Record) (n t : ℕ) (b : Batch) (txs : List Compact) (after : After (header_of K m.id n) (J n) (Prepare t b txs)) where
+module _ (K : Shape) (m : Minted) (J : ℕ → List Record) (n t : ℕ) (b : Batch) (txs : List Compact)
+    (after : After (header_of K m.id n) (J n) (Prepare t b txs)) where
   pub at_home : n ≡ home_of K b.lane
   at_home = after.1.1
 
@@ -57,9 +59,12 @@ no_flight : (o : Option Record) (r : Record) → o ≡ None → o ≡ Some r →
 no_flight o r e f = let z : None ≡ Some r = sym e ∙ f in cc
 
 -- a lane that left a Prepare in flight at its coordinator, where it is idle, left that of its next piece
-module _ (K : Shape) (m : Minted) (pieces : List (List Compact)) (lane : ℕ) (E X : ℕ → List Record) (log : Sight) (shards : ℕ → Sight) (log' : Sight) (shards' : ℕ → Sight) (opened faults capacity : ℕ → ℕ)
-    (txs : List Compact) (limits : IsWithinLimits K) (start : CheckedJournals K m E) (checked : CheckedJournals K m X) (home : home_of K lane < K.coordinators)
-    (l : LaneLeft K pieces lane E X (view K lane log shards) (view K lane log' shards')) (nodes : NodesOf K lane log' shards' opened faults capacity) (quiet : log.flight ≡ None)
+module _ (K : Shape) (m : Minted) (pieces : List (List Compact)) (lane : ℕ) (E X : ℕ → List Record) (log : Sight) (shards : ℕ → Sight) (log' : Sight)
+    (shards' : ℕ → Sight) (opened faults capacity : ℕ → ℕ)
+    (txs : List Compact) (limits : IsWithinLimits K) (start : CheckedJournals K m E) (checked : CheckedJournals K m X)
+    (home : home_of K lane < K.coordinators)
+    (l : LaneLeft K pieces lane E X (view K lane log shards) (view K lane log' shards')) (nodes : NodesOf K lane log' shards' opened faults capacity)
+    (quiet : log.flight ≡ None)
     (t : ℕ) (b : Batch) (these : List Compact) (left : log'.flight ≡ Some (Prepare t b these)) (idle : (slot log'.seen b.lane).phase ≡ Idle) where
   abbrev Next : Type 0
   Next = (b.lane ≡ lane) × IsNextPiece K lane txs E X these
@@ -84,10 +89,12 @@ module _ (K : Shape) (m : Minted) (pieces : List (List Compact)) (lane : ℕ) (E
       | inr (q, is, its, seen, holds) ↦
           let e : q ≡ Prepare t b these = same_record q (Prepare t b these) (sym is ∙ left) in
           let of : b.lane ≡ lane = its_lane lane t b these (subst (λ r. is_in_lane lane r ≡ true) e its) in
-          let piece : these ≡ take K.batch stop.rest = one_piece these (take K.batch stop.rest) (subst (Holds (take K.batch stop.rest ∷ [])) e holds) in (
+          let piece : these ≡ take K.batch stop.rest = one_piece these (take K.batch stop.rest) (subst (Holds (take K.batch stop.rest ∷ [])) e holds)
+          in (
             of,
             subst (IsNextPiece K lane txs E X) (sym piece)
-                (next_one K m pieces lane E X log shards log' shards' opened faults capacity txs limits start checked home l nodes node f stop (unwritten of)),
+                (next_one K m pieces lane E X log shards log' shards' opened faults capacity txs limits start checked home l nodes node f stop
+                (unwritten of)),
           )
     ]
 

@@ -29,7 +29,8 @@ module _ (h : Header) (J : List Record) (j : IsJournal h J) (lane : ℕ) (is_lan
   own = own_ok h J j
 
   -- its Prepare stands, and its Commit where the phase says so
-  stands : (p : OpenPhase) → (slot J lane).phase ≡ phase_of p → (is_some (record_of 6 J b) ≡ true) × HasOutcomes p (length (outcomes_of J b)) (length (txs_of J b))
+  stands : (p : OpenPhase) → (slot J lane).phase ≡ phase_of p
+      → (is_some (record_of 6 J b) ≡ true) × HasOutcomes p (length (outcomes_of J b)) (length (txs_of J b))
   stands Prepared e = ((own.ok.prepared b e refl).0, tt)
   stands Committed e = let has = own.phases.commit_here b e refl in (has.0, own.matches b has.1)
   stands Discarded e = let has = own.phases.discard_here b e refl in (has.0, own.matches b has.1)
@@ -42,12 +43,14 @@ module _ (h : Header) (J : List Record) (j : IsJournal h J) (lane : ℕ) (is_lan
     last_grammar = own.grammar _ b last.last last.stands
 
     no_shard : h.node < h.shape.coordinators → IsShardPhase (slot J lane).phase → ⊥
-    no_shard lt p = let le : h.shape.coordinators ≤ h.node = of_shard h last.last last_grammar (subst IsShardPhase (sym last.phase) p) in omega (arith, le, lt)
+    no_shard lt p = let le : h.shape.coordinators ≤ h.node = of_shard h last.last last_grammar (subst IsShardPhase (sym last.phase) p) in
+        omega (arith, le, lt)
 
     early : slot_stamp J lane < 2 ^ 63
     early = subst (λ t. t < 2 ^ 63) (sym last.stamp) (stamp_fits h last.last last_grammar)
 
-  pub is_open : (p : OpenPhase) → (slot J lane).phase ≡ phase_of p → IsLaneOpen h (λ l. (slot J l).phase) (λ l. txs_of J (open_batch J l)) (open_lane_in J lane p)
+  pub is_open : (p : OpenPhase) → (slot J lane).phase ≡ phase_of p
+      → IsLaneOpen h (λ l. (slot J l).phase) (λ l. txs_of J (open_batch J l)) (open_lane_in J lane p)
   is_open p e =
       let has = stands p e in
       let prepare = prepare_stands J b has.0 in
@@ -76,13 +79,15 @@ module _ (h : Header) (J : List Record) (j : IsJournal h J) (lane : ℕ) (is_lan
       by InDiscard e n = absurd (let z : Some (open_lane_in J lane Discarded) ≡ None = n in cc)
 
 -- what is told of a lane is its batch in the phase of its slot
-pub told_open : (J : List Record) (lane : ℕ) (o : OpenLane) → open_lane J lane ≡ Some o → (p : OpenPhase) × (o ≡ open_lane_in J lane p) × ((slot J lane).phase ≡ phase_of p)
+pub told_open : (J : List Record) (lane : ℕ) (o : OpenLane) → open_lane J lane ≡ Some o
+    → (p : OpenPhase) × (o ≡ open_lane_in J lane p) × ((slot J lane).phase ≡ phase_of p)
 told_open J lane o told = by (slot J lane).phase refl told
   where
     same : (a c : OpenLane) → Some a ≡ Some c → c ≡ a
     same a c e = cc
 
-    by : (p : Phase) → (slot J lane).phase ≡ p → option_map (open_lane_in J lane) (open_phase_of p) ≡ Some o → (p : OpenPhase) × (o ≡ open_lane_in J lane p) × ((slot J lane).phase ≡ phase_of p)
+    by : (p : Phase) → (slot J lane).phase ≡ p → option_map (open_lane_in J lane) (open_phase_of p) ≡ Some o
+        → (p : OpenPhase) × (o ≡ open_lane_in J lane p) × ((slot J lane).phase ≡ phase_of p)
     by Idle e n = absurd (let z : None ≡ Some o = n in cc)
     by InLock e n = absurd (let z : None ≡ Some o = n in cc)
     by InFinish e n = absurd (let z : None ≡ Some o = n in cc)
@@ -107,7 +112,8 @@ unfinished K lane log shards o told by =
     let t = told_open log.seen lane o told in
     subst (λ x. IsBatchUnfinished x.phase K x log shards) (sym t.1) (at t.0 (subst (λ p. IsOpenBy p K (open_batch log.seen lane) log shards) t.2 by))
   where
-    at : (p : OpenPhase) → IsOpenBy (phase_of p) K (open_batch log.seen lane) log shards → IsBatchUnfinished p K (open_lane_in log.seen lane p) log shards
+    at : (p : OpenPhase) → IsOpenBy (phase_of p) K (open_batch log.seen lane) log shards
+        → IsBatchUnfinished p K (open_lane_in log.seen lane p) log shards
     at Prepared h = h.1
     at Committed h = h.2
     at Discarded h = h.2

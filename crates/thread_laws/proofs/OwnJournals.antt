@@ -1,6 +1,8 @@
 -- What a journal says by itself of its lanes' open batches.
-use Rattle.std.proofs.Common.{◌≡◌, ◌⊎◌, inl, inr, ℕ, ◌+◌, ◌≤◌, true, false, ◌&&◌, ◌==◌, List, [], ◌∷◌, ◌++◌, length, Some, is_some, refl, sym, ap, ◌∙◌, subst, arith}
-use Rattle.cbdc_model.specs.Records.{Header, Batch, Compact, Outcome, Record, record_of, kind_of, is_of, same_batch, txs_of, outcomes_of, Genesis, Start, Prepare, Commit}
+use Rattle.std.proofs.Common.{◌≡◌, ◌⊎◌, inl, inr, ℕ, ◌+◌, ◌≤◌, true, false, ◌&&◌, ◌==◌, List, [], ◌∷◌, ◌++◌, length, Some, is_some, refl, sym, ap}
+use Rattle.std.proofs.Common.{◌∙◌, subst, arith}
+use Rattle.cbdc_model.specs.Records.{Header, Batch, Compact, Outcome, Record, record_of, kind_of, is_of, same_batch, txs_of, outcomes_of, Genesis}
+use Rattle.cbdc_model.specs.Records.{Start, Prepare, Commit}
 use Rattle.cbdc_model.specs.Slots.{Phase, slot, Idle, InLock, InFinish, InPrepare, InCommit, InDiscard}
 use Rattle.cbdc_model.specs.Grammar.{IsInGrammar}
 use Rattle.cbdc_model.specs.After.{IsFirst as BeginsAs, After, IsJournal}
@@ -80,10 +82,11 @@ module _ (h : Header) (q : Record) (past : List Record) where
 
   -- a found record is the new one or was there
   found_in : (kind : ℕ) (b : Batch) (r s : Record) → record_of kind (r ∷ J) b ≡ Some s → (r ≡ s) ⊎ (record_of kind J b ≡ Some s)
-  found_in kind b r s e = elim ((kind_of r == kind) && is_of b r) as (λ t. ((kind_of r == kind) && is_of b r) ≡ t → (r ≡ s) ⊎ (record_of kind J b ≡ Some s)) [
-    | true ↦ λ t. inl (some_same r s (sym (new t) ∙ e))
-    | false ↦ λ t. inr (sym (test_step kind r J b t) ∙ e)
-  ] refl
+  found_in kind b r s e = elim ((kind_of r == kind) && is_of b r) as
+      (λ t. ((kind_of r == kind) && is_of b r) ≡ t → (r ≡ s) ⊎ (record_of kind J b ≡ Some s)) [
+        | true ↦ λ t. inl (some_same r s (sym (new t) ∙ e))
+        | false ↦ λ t. inr (sym (test_step kind r J b t) ∙ e)
+      ] refl
     where
       new : ((kind_of r == kind) && is_of b r) ≡ true → record_of kind (r ∷ J) b ≡ Some r
       new t = rw t
@@ -136,22 +139,27 @@ module _ (h : Header) (q : Record) (past : List Record) where
 pub own_ok : (h : Header) (J : List Record) → IsJournal h J → OwnOk h J
 own_ok h [] j = absurd j
 own_ok h (r ∷ []) j = first_own h (r ∷ []) (begins r j.0, tt)
-own_ok h (r ∷ (q ∷ past)) j = next_own h q past (own_ok h (q ∷ past) j.1) r j.0 (next_of h.shape h.genesis h.node (q ∷ past) r (λ lt e. no_end h q past e) j.0)
+own_ok h (r ∷ (q ∷ past)) j = next_own h q past (own_ok h (q ∷ past) j.1) r j.0
+    (next_of h.shape h.genesis h.node (q ∷ past) r (λ lt e. no_end h q past e) j.0)
 
 -- what stands in a journal is not written again
-pub stands_still : (h : Header) (newer J : List Record) → IsJournal h J → IsJournal h (newer ++ J) → (kind : ℕ) (b : Batch) → is_some (record_of kind J b) ≡ true
+pub stands_still : (h : Header) (newer J : List Record) → IsJournal h J → IsJournal h (newer ++ J) → (kind : ℕ) (b : Batch)
+    → is_some (record_of kind J b) ≡ true
     → record_of kind (newer ++ J) b ≡ record_of kind J b
 stands_still h [] J i j kind b t = refl
 stands_still h (r ∷ newer) [] i j kind b t = absurd i
 stands_still h (r ∷ newer) (q ∷ past) i j kind b t = above newer (λ k. stands_still h newer (q ∷ past) i k kind b t) j
   where
-    on : (p : Record) (rest : List Record) → record_of kind (p ∷ rest) b ≡ record_of kind (q ∷ past) b → IsJournal h (r ∷ (p ∷ rest)) → record_of kind (r ∷ (p ∷ rest)) b ≡ record_of kind (q ∷ past) b
+    on : (p : Record) (rest : List Record) → record_of kind (p ∷ rest) b ≡ record_of kind (q ∷ past) b → IsJournal h (r ∷ (p ∷ rest))
+        → record_of kind (r ∷ (p ∷ rest)) b ≡ record_of kind (q ∷ past) b
     on p rest same j =
         let own : OwnOk h (p ∷ rest) = own_ok h (p ∷ rest) j.1 in
         let next : Next h.shape h.node (p ∷ rest) r = next_of h.shape h.genesis h.node (p ∷ rest) r (λ lt e. no_end h p rest e) j.0 in
-        test_step kind r (p ∷ rest) b (not_true _ (λ new. once h.shape h.node (p ∷ rest) own.ok own.more r next kind b new (ap is_some same ∙ t))) ∙ same
+        test_step kind r (p ∷ rest) b (not_true _ (λ new. once h.shape h.node (p ∷ rest) own.ok own.more r next kind b new (ap is_some same ∙ t)))
+        ∙ same
 
-    above : (newer : List Record) → (IsJournal h (newer ++ q ∷ past) → record_of kind (newer ++ q ∷ past) b ≡ record_of kind (q ∷ past) b) → IsJournal h (r ∷ (newer ++ q ∷ past))
+    above : (newer : List Record) → (IsJournal h (newer ++ q ∷ past) → record_of kind (newer ++ q ∷ past) b ≡ record_of kind (q ∷ past) b)
+        → IsJournal h (r ∷ (newer ++ q ∷ past))
         → record_of kind (r ∷ (newer ++ q ∷ past)) b ≡ record_of kind (q ∷ past) b
     above [] same j = on q past refl j
     above (p ∷ newer) same j = on p (newer ++ q ∷ past) (same j.1) j

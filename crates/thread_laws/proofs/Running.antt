@@ -1,5 +1,6 @@
 -- From the record of a wave to all that is said of it.
-use Rattle.std.proofs.Common.{◌≡◌, inl, ℕ, zero, suc, ◌+◌, ◌-◌, ◌*◌, ◌/◌, ◌<◌, ◌≤◌, Bool, true, false, ◌||◌, not, ◌==◌, nat_lt, if◌then◌else◌, List, [], length, Some, refl, sym, ap, ◌∙◌, subst, arith}
+use Rattle.std.proofs.Common.{◌≡◌, inl, ℕ, zero, suc, ◌+◌, ◌-◌, ◌*◌, ◌/◌, ◌<◌, ◌≤◌, Bool, true, false, ◌||◌, not, ◌==◌, nat_lt, if◌then◌else◌, List}
+use Rattle.std.proofs.Common.{[], length, Some, refl, sym, ap, ◌∙◌, subst, arith}
 use Rattle.std.specs.Prelude.{slice_get}
 use Rattle.std.proofs.lemmas.Nat.{div_below, div-mul-add}
 use Rattle.std.proofs.lemmas.Option.{slice_get_within}
@@ -67,14 +68,17 @@ module _ (K : Shape) where
   back s = omega arith
 
   shard_place : {A : Type 0} (logs shards : ℕ → A) (s : ℕ) → place logs shards (shard_node K s) ≡ shards s
-  shard_place logs shards s = ap (λ c. if c then logs (shard_node K s) else shards (shard_node K s - K.coordinators)) (high_node s) ∙ ap shards (back s)
+  shard_place logs shards s = ap (λ c. if c then logs (shard_node K s) else shards (shard_node K s - K.coordinators)) (high_node s)
+      ∙ ap shards (back s)
 
   log_among : {A : Type 0} (logs shards : ℕ → List A) (n : ℕ) → n < K.coordinators → among logs shards n ≡ logs n
-  log_among logs shards n lt = ap (λ c. if c then logs n else (if nat_lt (n - K.coordinators) K.shards then shards (n - K.coordinators) else [])) (is_low n K.coordinators lt)
+  log_among logs shards n lt = ap (λ c. if c then logs n else (if nat_lt (n - K.coordinators) K.shards then shards (n - K.coordinators) else []))
+      (is_low n K.coordinators lt)
 
   shard_by : {A : Type 0} (logs shards : ℕ → List A) (s : ℕ) → among logs shards (shard_node K s) ≡ (if nat_lt s K.shards then shards s else [])
   shard_by logs shards s =
-      ap (λ c. if c then logs (shard_node K s) else (if nat_lt (shard_node K s - K.coordinators) K.shards then shards (shard_node K s - K.coordinators) else [])) (high_node s)
+      ap (λ c. if c then logs (shard_node K s) else
+      (if nat_lt (shard_node K s - K.coordinators) K.shards then shards (shard_node K s - K.coordinators) else [])) (high_node s)
       ∙ ap (λ m. if nat_lt m K.shards then shards m else []) (back s)
 
   shard_among : {A : Type 0} (logs shards : ℕ → List A) (s : ℕ) → s < K.shards → among logs shards (shard_node K s) ≡ shards s
@@ -84,9 +88,12 @@ module _ (K : Shape) where
   none_among logs shards s le = shard_by logs shards s ∙ ap (λ c. if c then shards s else []) (is_high s K.shards le)
 
   -- what is so of each coordinator, of each shard, and past these
-  each_node : (P : Sight → List ℕ → List Hand → Sight → Type 0) (logs shards : ℕ → Sight) (log_lanes shard_lanes : ℕ → List ℕ) (log_hands shard_hands : ℕ → List Hand) (logs' shards' : ℕ → Sight)
-      → ((n : ℕ) → n < K.coordinators → P (logs n) (log_lanes n) (log_hands n) (logs' n)) → ((s : ℕ) → s < K.shards → P (shards s) (shard_lanes s) (shard_hands s) (shards' s))
-      → ((s : ℕ) → K.shards ≤ s → P (shards s) [] [] (shards' s)) → (n : ℕ) → P (place logs shards n) (among log_lanes shard_lanes n) (among log_hands shard_hands n) (place logs' shards' n)
+  each_node : (P : Sight → List ℕ → List Hand → Sight → Type 0) (logs shards : ℕ → Sight) (log_lanes shard_lanes : ℕ → List ℕ)
+      (log_hands shard_hands : ℕ → List Hand) (logs' shards' : ℕ → Sight)
+      → ((n : ℕ) → n < K.coordinators → P (logs n) (log_lanes n) (log_hands n) (logs' n))
+      → ((s : ℕ) → s < K.shards → P (shards s) (shard_lanes s) (shard_hands s) (shards' s))
+      → ((s : ℕ) → K.shards ≤ s → P (shards s) [] [] (shards' s)) → (n : ℕ)
+      → P (place logs shards n) (among log_lanes shard_lanes n) (among log_hands shard_hands n) (place logs' shards' n)
   each_node P logs shards log_lanes shard_lanes log_hands shard_hands logs' shards' low high none n = at (nat_lt n K.coordinators) refl
     where
       s : ℕ
@@ -97,44 +104,52 @@ module _ (K : Shape) where
       past false e = none s (le_of s K.shards e)
 
       at : (t : Bool) → nat_lt n K.coordinators ≡ t
-          → P (if t then logs n else shards s) (if t then log_lanes n else (if nat_lt s K.shards then shard_lanes s else [])) (if t then log_hands n else (if nat_lt s K.shards then shard_hands s else [])) (if t then logs' n else shards' s)
+          → P (if t then logs n else shards s) (if t then log_lanes n else (if nat_lt s K.shards then shard_lanes s else []))
+          (if t then log_hands n else (if nat_lt s K.shards then shard_hands s else [])) (if t then logs' n else shards' s)
       at true e = low n (lt_of n K.coordinators e)
       at false e = past (nat_lt s K.shards) refl
 
   -- what is seen of nodes, by their numbers
   module _ (logs shards : ℕ → Sight) (n : ℕ) where
     seen_is : seen_by K logs shards n ≡ (place logs shards n).seen
-    seen_is = elim (nat_lt n K.coordinators) as (λ c. (if c then (logs n).seen else (shards (n - K.coordinators)).seen) ≡ (if c then logs n else shards (n - K.coordinators)).seen) [
-      | true ↦ refl
-      | false ↦ refl
-    ]
+    seen_is = elim (nat_lt n K.coordinators) as (λ c. (if c then (logs n).seen else (shards (n - K.coordinators)).seen)
+        ≡ (if c then logs n else shards (n - K.coordinators)).seen) [
+          | true ↦ refl
+          | false ↦ refl
+        ]
 
     flight_is : flying K logs shards n ≡ (place logs shards n).flight
-    flight_is = elim (nat_lt n K.coordinators) as (λ c. (if c then (logs n).flight else (shards (n - K.coordinators)).flight) ≡ (if c then logs n else shards (n - K.coordinators)).flight) [
-      | true ↦ refl
-      | false ↦ refl
-    ]
+    flight_is = elim (nat_lt n K.coordinators) as
+        (λ c. (if c then (logs n).flight else (shards (n - K.coordinators)).flight) ≡ (if c then logs n else shards (n - K.coordinators)).flight) [
+          | true ↦ refl
+          | false ↦ refl
+        ]
 
     opened_is : opened_by K logs shards n ≡ (place logs shards n).opened
-    opened_is = elim (nat_lt n K.coordinators) as (λ c. (if c then (logs n).opened else (shards (n - K.coordinators)).opened) ≡ (if c then logs n else shards (n - K.coordinators)).opened) [
-      | true ↦ refl
-      | false ↦ refl
-    ]
+    opened_is = elim (nat_lt n K.coordinators) as
+        (λ c. (if c then (logs n).opened else (shards (n - K.coordinators)).opened) ≡ (if c then logs n else shards (n - K.coordinators)).opened) [
+          | true ↦ refl
+          | false ↦ refl
+        ]
 
     faults_is : faults_by K logs shards n ≡ (place logs shards n).faults
-    faults_is = elim (nat_lt n K.coordinators) as (λ c. (if c then (logs n).faults else (shards (n - K.coordinators)).faults) ≡ (if c then logs n else shards (n - K.coordinators)).faults) [
-      | true ↦ refl
-      | false ↦ refl
-    ]
+    faults_is = elim (nat_lt n K.coordinators) as
+        (λ c. (if c then (logs n).faults else (shards (n - K.coordinators)).faults) ≡ (if c then logs n else shards (n - K.coordinators)).faults) [
+          | true ↦ refl
+          | false ↦ refl
+        ]
 
     capacity_is : capacity_by K logs shards n ≡ (place logs shards n).capacity
-    capacity_is = elim (nat_lt n K.coordinators) as (λ c. (if c then (logs n).capacity else (shards (n - K.coordinators)).capacity) ≡ (if c then logs n else shards (n - K.coordinators)).capacity) [
-      | true ↦ refl
-      | false ↦ refl
-    ]
+    capacity_is = elim (nat_lt n K.coordinators) as
+        (λ c. (if c then (logs n).capacity else (shards (n - K.coordinators)).capacity)
+        ≡ (if c then logs n else shards (n - K.coordinators)).capacity) [
+          | true ↦ refl
+          | false ↦ refl
+        ]
 
   -- the nodes of a lane, by other counts that are the same
-  as_nodes : (lane : ℕ) (log : Sight) (shards : ℕ → Sight) (f g h f' g' h' : ℕ → ℕ) → ((n : ℕ) → f' n ≡ f n) → ((n : ℕ) → g' n ≡ g n) → ((n : ℕ) → h' n ≡ h n)
+  as_nodes : (lane : ℕ) (log : Sight) (shards : ℕ → Sight) (f g h f' g' h' : ℕ → ℕ) → ((n : ℕ) → f' n ≡ f n) → ((n : ℕ) → g' n ≡ g n)
+      → ((n : ℕ) → h' n ≡ h n)
       → NodesOf K lane log shards f g h → NodesOf K lane log shards f' g' h'
   as_nodes lane log shards f g h f' g' h' p q r k = record {
     log_shape = k.log_shape;
@@ -148,7 +163,8 @@ module _ (K : Shape) where
   }
 
   -- a lane is as settled where what it has seen is the same
-  settled_as : (lane k : ℕ) (log : Sight) (shards : ℕ → Sight) (log' : Sight) (shards' : ℕ → Sight) → log'.header ≡ log.header → log'.seen ≡ log.seen → ((s : ℕ) → (shards' s).seen ≡ (shards s).seen)
+  settled_as : (lane k : ℕ) (log : Sight) (shards : ℕ → Sight) (log' : Sight) (shards' : ℕ → Sight) → log'.header ≡ log.header → log'.seen ≡ log.seen
+      → ((s : ℕ) → (shards' s).seen ≡ (shards s).seen)
       → Settled K lane k log shards → Settled K lane k log' shards'
   settled_as lane k log shards log' shards' h l s was = record {
     home = was.home;
@@ -157,7 +173,8 @@ module _ (K : Shape) where
     idle = ap (λ L. (slot L lane).phase) l ∙ was.idle;
     shard_idle = λ n. ap (λ L. (slot L lane).phase) (s n) ∙ was.shard_idle n;
     shard_number = λ n. subst (λ L. (slot L lane).number ≤ k) (sym (s n)) (was.shard_number n);
-    shard_stamp = λ n. subst (λ L. slot_stamp L lane ≤ last_stamp log'.seen) (sym (s n)) (subst (λ L. slot_stamp (shards n).seen lane ≤ last_stamp L) (sym l) (was.shard_stamp n));
+    shard_stamp = λ n. subst (λ L. slot_stamp L lane ≤ last_stamp log'.seen) (sym (s n))
+        (subst (λ L. slot_stamp (shards n).seen lane ≤ last_stamp L) (sym l) (was.shard_stamp n));
     fresh_log = λ kind b is lt. ap (λ L. record_of kind L b) l ∙ was.fresh_log kind b is lt;
     fresh_shard = λ n kind b is lt. ap (λ L. record_of kind L b) (s n) ∙ was.fresh_shard n kind b is lt;
   }
@@ -170,8 +187,10 @@ pub fresh_settled_law : FreshSettledLaw
 fresh_settled_law K m logs shards lane log seen limits lt shapes checked idle same seen_same =
     let home = home_inside lane K.coordinators K.lanes lt in
     let rest = checked_rest_law K m lane logs shards limits.some_shard home (shapes (home_of K lane) home) checked
-    (ap (λ L. (slot L lane).phase) (sym (seen_log K logs shards (home_of K lane) home)) ∙ idle lane lt) in
-    ((slot (logs (home_of K lane)).seen lane).number, settled_as K lane (slot (logs (home_of K lane)).seen lane).number (logs (home_of K lane)) shards log seen same.0 same.1 seen_same rest)
+    (ap (λ L. (slot L lane).phase) (sym (seen_log K logs shards (home_of K lane) home)) ∙ idle lane lt) in (
+      (slot (logs (home_of K lane)).seen lane).number,
+      settled_as K lane (slot (logs (home_of K lane)).seen lane).number (logs (home_of K lane)) shards log seen same.0 same.1 seen_same rest,
+    )
 
 -- ---- a wave
 
@@ -199,11 +218,19 @@ module _ (K : Shape) (logs shards logs' shards' : ℕ → Sight) (nodes : WaveNo
   none_done s le = none_now s le ∙ sym (none_begun s le)
 
   nothing : (s : ℕ) → K.shards ≤ s → Done (shards s) [] [] (shards' s)
-  nothing s le = record { log = []; list = ap (λ x. x.seen) (nodes.beyond s le); drawn = tt; cover = λ x. refl; hands = tt; flight = inl (nodes.next.beyond s le) }
+  nothing s le = record {
+    log = [];
+    list = ap (λ x. x.seen) (nodes.beyond s le);
+    drawn = tt;
+    cover = λ x. refl;
+    hands = tt;
+    flight = inl (nodes.next.beyond s le);
+  }
 
   module _ (old new : List LaneOf) (places : length old ≡ K.coordinators * K.lanes) where
     abbrev Says : Type 0
-    Says = WaveSays K E X (flying K logs shards) (flying K logs' shards') (opened_by K logs' shards') (faults_by K logs' shards') (capacity_by K logs' shards') old new
+    Says = WaveSays K E X (flying K logs shards) (flying K logs' shards') (opened_by K logs' shards') (faults_by K logs' shards')
+        (capacity_by K logs' shards') old new
 
     -- what is so of each node is said of all
     says_nodes : ((n : ℕ) → n < K.coordinators → Same (logs n) (logs' n) × ((logs n).faults ≤ (logs' n).faults))
@@ -211,13 +238,15 @@ module _ (K : Shape) (logs shards logs' shards' : ℕ → Sight) (nodes : WaveNo
     says_nodes low high = record {
       log_headers = λ n lt. (low n lt).0.header;
       shard_headers = λ s lt. (high s lt).0.header;
-      later = λ n. subst (λ x. x ≤ faults_by K logs' shards' n) (sym (faults_is K logs shards n)) (subst (λ x. (first n).faults ≤ x) (sym (faults_is K logs' shards' n)) (all n).1);
+      later = λ n. subst (λ x. x ≤ faults_by K logs' shards' n) (sym (faults_is K logs shards n))
+          (subst (λ x. (first n).faults ≤ x) (sym (faults_is K logs' shards' n)) (all n).1);
       opened_same = λ n. opened_is K logs' shards' n ∙ (all n).0.opened ∙ sym (opened_is K logs shards n);
       capacity_same = λ n. capacity_is K logs' shards' n ∙ (all n).0.capacity ∙ sym (capacity_is K logs shards n);
     }
       where
         none : (s : ℕ) → K.shards ≤ s → Kept (shards s) (shards' s)
-        none s le = subst (λ x. Same (shards s) x × ((shards s).faults ≤ x.faults)) (sym (nodes.beyond s le)) (record { header = refl; opened = refl; capacity = refl }, omega arith)
+        none s le = subst (λ x. Same (shards s) x × ((shards s).faults ≤ x.faults)) (sym (nodes.beyond s le))
+            (record { header = refl; opened = refl; capacity = refl }, omega arith)
 
         all : (n : ℕ) → Kept (first n) (last n)
         all n = each_node K (λ f ls hs l. Kept f l) logs shards (λ k. []) (λ k. []) (λ k. []) (λ k. []) logs' shards' low high none n
@@ -245,11 +274,14 @@ module _ (K : Shape) (logs shards logs' shards' : ℕ → Sight) (nodes : WaveNo
           none : 0 < times l [] → ⊥
           none lt = omega (arith, lt)
 
-          past : (u : Bool) → nat_lt s K.shards ≡ u → nat_lt n K.coordinators ≡ false → 0 < times l (if u then ran.shard_lanes s else []) → (l < K.coordinators * K.lanes) × (asks K l n ≡ true)
+          past : (u : Bool) → nat_lt s K.shards ≡ u → nat_lt n K.coordinators ≡ false → 0 < times l (if u then ran.shard_lanes s else [])
+              → (l < K.coordinators * K.lanes) × (asks K l n ≡ true)
           past true u e some = (ran.shard_drawn s l (lt_of s K.shards u) some, any (home_of K l) n (nat_lt n K.coordinators) e)
           past false u e some = absurd (none some)
 
-          at : (t : Bool) → nat_lt n K.coordinators ≡ t → 0 < times l (if t then ran.log_lanes n else (if nat_lt s K.shards then ran.shard_lanes s else [])) → (l < K.coordinators * K.lanes) × (asks K l n ≡ true)
+          at : (t : Bool) → nat_lt n K.coordinators ≡ t
+              → 0 < times l (if t then ran.log_lanes n else (if nat_lt s K.shards then ran.shard_lanes s else []))
+              → (l < K.coordinators * K.lanes) × (asks K l n ≡ true)
           at true e some = let d = ran.log_drawn n l (lt_of n K.coordinators e) some in (d.0, its (home_of K l) n (not (nat_lt n K.coordinators)) d.1)
           at false e some = past (nat_lt s K.shards) refl e some
 
@@ -259,7 +291,8 @@ module _ (K : Shape) (logs shards logs' shards' : ℕ → Sight) (nodes : WaveNo
         last = last;
         lanes = lanes_at;
         hands = hands_at;
-        done = λ n. each_node K Done logs shards ran.log_lanes ran.shard_lanes ran.log_hands ran.shard_hands logs' shards' (λ k lt. (ran.log_ran k lt).done) (λ s lt. (ran.shard_ran s lt).done) nothing n;
+        done = λ n. each_node K Done logs shards ran.log_lanes ran.shard_lanes ran.log_hands ran.shard_hands logs' shards'
+            (λ k lt. (ran.log_ran k lt).done) (λ s lt. (ran.shard_ran s lt).done) nothing n;
         begun = seen_is K logs shards;
         ended = seen_is K logs' shards';
         flew = flight_is K logs shards;
@@ -277,9 +310,11 @@ module _ (K : Shape) (logs shards logs' shards' : ℕ → Sight) (nodes : WaveNo
           s : ℕ
           s = n - K.coordinators
 
-          at : (t : Bool) → nat_lt n K.coordinators ≡ t → Same (if t then logs n else shards s) (if t then logs' n else shards' s) × ((if t then logs n else shards s).header.shape ≡ K)
+          at : (t : Bool) → nat_lt n K.coordinators ≡ t
+              → Same (if t then logs n else shards s) (if t then logs' n else shards' s) × ((if t then logs n else shards s).header.shape ≡ K)
           at true e = let low = lt_of n K.coordinators e in ((ran.log_ran n low).same, nodes.log_shapes n low)
-          at false e = let high : s < K.shards = let le = le_of n K.coordinators e in omega (arith, le, lt) in ((ran.shard_ran s high).same, nodes.shard_shapes s high)
+          at false e = let high : s < K.shards = let le = le_of n K.coordinators e in omega (arith, le, lt) in
+              ((ran.shard_ran s high).same, nodes.shard_shapes s high)
 
       module _ (lane : ℕ) (x y : LaneOf) (here : slice_get old lane ≡ Some x) (there : slice_get new lane ≡ Some y) where
         r : LaneRan K logs shards ran.log_hands ran.shard_hands lane x y
@@ -295,9 +330,11 @@ module _ (K : Shape) (logs shards logs' shards' : ℕ → Sight) (nodes : WaveNo
         sits = record {
           home = home;
           at_log = subst (λ f. SitsAt lane f (hands_at (home_of K lane)) r.log r.log') (sym (log_place K logs shards (home_of K lane) home))
-              (subst (λ hs. SitsAt lane (logs (home_of K lane)) hs r.log r.log') (sym (log_among K ran.log_hands ran.shard_hands (home_of K lane) home)) r.at_log);
+              (subst (λ hs. SitsAt lane (logs (home_of K lane)) hs r.log r.log')
+              (sym (log_among K ran.log_hands ran.shard_hands (home_of K lane) home)) r.at_log);
           at_shard = λ s lt. subst (λ f. SitsAt lane f (hands_at (shard_node K s)) (r.seen s) (r.seen' s)) (sym (shard_place K logs shards s))
-              (subst (λ hs. SitsAt lane (shards s) hs (r.seen s) (r.seen' s)) (sym (shard_among K ran.log_hands ran.shard_hands s lt)) (r.at_shard s lt));
+              (subst (λ hs. SitsAt lane (shards s) hs (r.seen s) (r.seen' s)) (sym (shard_among K ran.log_hands ran.shard_hands s lt))
+              (r.at_shard s lt));
           none_begun = λ s le. (r.beyond s le).0 ∙ sym (none_begun s le);
           none_now = λ s le. (r.beyond s le).2 ∙ sym (none_now s le);
           none_done = none_done;
@@ -320,14 +357,16 @@ module _ (K : Shape) (logs shards logs' shards' : ℕ → Sight) (nodes : WaveNo
           shard_quiet = sat.shard_quiet;
           seats = sat.seats;
           seen_by = sat.seen_by;
-          nodes = as_nodes K lane r.log' r.seen' (λ n. (last n).opened) (λ n. (last n).faults) (λ n. (last n).capacity) (opened_by K logs' shards') (faults_by K logs' shards') (capacity_by K logs' shards')
+          nodes = as_nodes K lane r.log' r.seen' (λ n. (last n).opened) (λ n. (last n).faults) (λ n. (last n).capacity) (opened_by K logs' shards')
+              (faults_by K logs' shards') (capacity_by K logs' shards')
               (opened_is K logs' shards') (faults_is K logs' shards') (capacity_is K logs' shards') sat.nodes;
           txs = r.txs;
           ended = r.ended;
         }
 
       -- each node has a lane, which has seen no fewer faults at its end
-      later_at : (f l o p : Sight) (lanes : List ℕ) (hands : List Hand) (lane : ℕ) → NodeRan f lanes hands l → SitsAt lane f hands o p → f.faults ≤ l.faults
+      later_at : (f l o p : Sight) (lanes : List ℕ) (hands : List Hand) (lane : ℕ) → NodeRan f lanes hands l → SitsAt lane f hands o p
+          → f.faults ≤ l.faults
       later_at f l o p lanes hands lane n s =
           let start : o.faults ≡ f.faults = ap (λ x. x.faults) s.was in
           let end : p.faults ≡ s.now.faults = ap (λ x. x.faults) s.is in
@@ -335,7 +374,8 @@ module _ (K : Shape) (logs shards logs' shards' : ℕ → Sight) (nodes : WaveNo
           let on : o.faults ≤ p.faults = s.later in
           omega (arith, start, end, last_one, on)
 
-      lane_at : (lane : ℕ) → lane < K.coordinators * K.lanes → (x : LaneOf) × (y : LaneOf) × LaneRan K logs shards ran.log_hands ran.shard_hands lane x y
+      lane_at : (lane : ℕ) → lane < K.coordinators * K.lanes
+          → (x : LaneOf) × (y : LaneOf) × LaneRan K logs shards ran.log_hands ran.shard_hands lane x y
       lane_at lane lt =
           let o = at_place old lane (subst (λ n. lane < n) (sym places) lt) in
           let n = at_place new lane (subst (λ n. lane < n) (sym (ran.count ∙ places)) lt) in
@@ -366,15 +406,19 @@ module _ (K : Shape) (logs shards logs' shards' : ℕ → Sight) (nodes : WaveNo
       shard_later s lt =
           let zero_first : 0 * K.lanes ≡ 0 = omega arith in
           let z = lane_at 0 (subst (λ n. n < K.coordinators * K.lanes) zero_first (first_lane 0 nodes.limits.some_coordinator)) in
-          later_at (shards s) (shards' s) (z.2.seen s) (z.2.seen' s) (ran.shard_lanes s) (ran.shard_hands s) 0 (ran.shard_ran s lt) (z.2.at_shard s lt)
+          later_at (shards s) (shards' s) (z.2.seen s) (z.2.seen' s) (ran.shard_lanes s) (ran.shard_hands s) 0 (ran.shard_ran s lt)
+          (z.2.at_shard s lt)
 
       say_nodes : NodesSay K logs shards logs' shards'
       say_nodes = says_nodes (λ n lt. ((ran.log_ran n lt).same, log_later n lt)) (λ s lt. ((ran.shard_ran s lt).same, shard_later s lt))
 
       ran_says : Says
-      ran_says = wave_says_law K E X (flying K logs shards) (flying K logs' shards') (opened_by K logs' shards') (faults_by K logs' shards') (capacity_by K logs' shards') old new locks nodes.limits places ran.count
-          (λ m checked. threads_next_law K m logs shards logs' shards' nodes.before nodes.behind say_nodes.log_headers say_nodes.shard_headers checked)
+      ran_says = wave_says_law K E X (flying K logs shards) (flying K logs' shards') (opened_by K logs' shards') (faults_by K logs' shards')
+          (capacity_by K logs' shards') old new locks nodes.limits places ran.count
+          (λ m checked. threads_next_law K m logs shards logs' shards' nodes.before nodes.behind say_nodes.log_headers say_nodes.shard_headers
+          checked)
           (λ m checked. after_here K logs' shards' nodes.behind nodes.next m checked) went
 
 pub wave_ran_law : WaveRanLaw
-wave_ran_law K logs shards logs' shards' old new nodes places ran = (ran_says K logs shards logs' shards' nodes old new places ran, say_nodes K logs shards logs' shards' nodes old new places ran)
+wave_ran_law K logs shards logs' shards' old new nodes places ran =
+    (ran_says K logs shards logs' shards' nodes old new places ran, say_nodes K logs shards logs' shards' nodes old new places ran)

@@ -1,5 +1,6 @@
 -- What is in flight behind a turn may come next at its node.
-use Rattle.std.proofs.Common.{◌≡◌, inl, inr, ℕ, ◌-◌, ◌<◌, ◌≤◌, true, false, nat_lt, if◌then◌else◌, List, [], Option, Some, None, sym, ap, ◌∙◌, subst, arith}
+use Rattle.std.proofs.Common.{◌≡◌, inl, inr, ℕ, ◌-◌, ◌<◌, ◌≤◌, true, false, nat_lt, if◌then◌else◌, List, [], Option, Some, None, sym, ap, ◌∙◌, subst}
+use Rattle.std.proofs.Common.{arith}
 use Rattle.std.specs.Prelude.{IfSome}
 use Rattle.std.proofs.lemmas.Bool.{lt-ltb, le-ltb}
 use Rattle.cbdc_types.specs.declared.batch.OpenLane.{OpenLane}
@@ -47,7 +48,8 @@ if_there o P x h e = subst (λ p. IfSome p P) e h
 none_there : {A : Type 0} {X : Type 0} (o : Option A) (x : A) → o ≡ None → o ≡ Some x → X
 none_there o x none e = cc
 
-module _ (K : Shape) (logs shards : ℕ → Sight) (nodes : AreNodes K logs shards) (next : AreNext K logs shards) (m : Minted) (checked : CheckedJournals K m (seen_by K logs shards)) (n : ℕ) (r : Record) where
+module _ (K : Shape) (logs shards : ℕ → Sight) (nodes : AreNodes K logs shards) (next : AreNext K logs shards) (m : Minted)
+    (checked : CheckedJournals K m (seen_by K logs shards)) (n : ℕ) (r : Record) where
   abbrev Here : Type 0
   Here = After (header_of K m.id n) (seen_by K logs shards n) r
 
@@ -55,7 +57,8 @@ module _ (K : Shape) (logs shards : ℕ → Sight) (nodes : AreNodes K logs shar
   at_log lt e =
       let seen : seen_by K logs shards n ≡ (logs n).seen = seen_log K logs shards n lt in
       let h : (logs n).header ≡ header_of K m.id n =
-      header_is K m (seen_by K logs shards) n (logs n).header checked (omega (arith, lt)) (subst (IsJournal (logs n).header) (sym seen) (nodes.logs_are n lt)) in
+      header_is K m (seen_by K logs shards) n (logs n).header checked (omega (arith, lt))
+      (subst (IsJournal (logs n).header) (sym seen) (nodes.logs_are n lt)) in
       subst (λ L. After (header_of K m.id n) L r) (sym seen) (subst (λ k. After k (logs n).seen r) h
       (if_there (logs n).flight (After (logs n).header (logs n).seen) r (next.logs_are n lt) (sym (log_flight K logs shards n lt) ∙ e)))
 
@@ -65,7 +68,8 @@ module _ (K : Shape) (logs shards : ℕ → Sight) (nodes : AreNodes K logs shar
       let back : shard_node K s ≡ n = omega (arith, le) in
       let seen : seen_by K logs shards n ≡ (shards s).seen = ap (seen_by K logs shards) (sym back) ∙ seen_shard K logs shards s in
       let h : (shards s).header ≡ header_of K m.id n =
-      header_is K m (seen_by K logs shards) n (shards s).header checked (omega (arith, lt, le)) (subst (IsJournal (shards s).header) (sym seen) (nodes.shards_are s lt)) in
+      header_is K m (seen_by K logs shards) n (shards s).header checked (omega (arith, lt, le))
+      (subst (IsJournal (shards s).header) (sym seen) (nodes.shards_are s lt)) in
       subst (λ L. After (header_of K m.id n) L r) (sym seen) (subst (λ k. After k (shards s).seen r) h
       (if_there (shards s).flight (After (shards s).header (shards s).seen) r (next.shards_are s lt) (sym (shard_flight K logs shards n le) ∙ e)))
 
@@ -74,11 +78,13 @@ module _ (K : Shape) (logs shards : ℕ → Sight) (nodes : AreNodes K logs shar
   after_here e = elim (which_node K n) [
     | inl lt ↦ at_log lt e
     | inr (inl (le, lt)) ↦ at_shard le lt e
-    | inr (inr (le, none)) ↦ none_there (shards (n - K.coordinators)).flight r (next.beyond (n - K.coordinators) none) (sym (shard_flight K logs shards n le) ∙ e)
+    | inr (inr (le, none)) ↦ none_there (shards (n - K.coordinators)).flight r (next.beyond (n - K.coordinators) none)
+        (sym (shard_flight K logs shards n le) ∙ e)
   ]
 
 module _ (K : Shape) (lane : ℕ) (logs shards logs' shards' : ℕ → Sight) (some : 0 < K.shards) (home : home_of K lane < K.coordinators)
-    (shape : (logs (home_of K lane)).header.shape ≡ K) (elsewhere : Elsewhere K lane logs logs') (nodes : AreNodes K logs shards) (nodes' : AreNodes K logs' shards')
+    (shape : (logs (home_of K lane)).header.shape ≡ K) (elsewhere : Elsewhere K lane logs logs') (nodes : AreNodes K logs shards)
+    (nodes' : AreNodes K logs' shards')
     (log_nodes : KeepNodes logs logs') (shard_nodes : KeepNodes shards shards') (next : AreNext K logs' shards') where
   abbrev I : ℕ → List Record
   I = seen_by K logs shards
@@ -106,19 +112,25 @@ module _ (K : Shape) (lane : ℕ) (logs shards logs' shards' : ℕ → Sight) (s
         | false ↦ λ e. ((shard_nodes (n - K.coordinators)).flying r e).1
       ]
 
-  flies : (pieces : List (List Compact)) (mint : List Output) (submissions : List FullTx) → AllPass (IsProperCompact submissions) pieces → Flown K pieces lane log shards log' shards'
+  flies : (pieces : List (List Compact)) (mint : List Output) (submissions : List FullTx) → AllPass (IsProperCompact submissions) pieces
+      → Flown K pieces lane log shards log' shards'
       → StaysKept K I J mint submissions → FliesOn K I J F G mint submissions
   flies pieces mint submissions pass flown stays may n r e =
       let after = after_here K logs' shards' nodes' next (minted mint) (kept_is_checked_law K mint submissions J stays.kept) n r e in
       elim (flown_law K submissions pieces lane logs shards logs' shards' home pass elsewhere flown n r e) [
         | inl was ↦
             let m : MayCome K mint submissions I n r = may n r was in
-            record { after = after; seen = subst (λ rest. Seen K J n rest r) (sym (still_here n r was)) (seen_grows K I J n (I n) r stays.grows m.seen); passes = m.passes }
+            record {
+              after = after;
+              seen = subst (λ rest. Seen K J n rest r) (sym (still_here n r was)) (seen_grows K I J n (I n) r stays.grows m.seen);
+              passes = m.passes;
+            }
         | inr new ↦ record { after = after; seen = new.0; passes = new.1 }
       ]
 
   -- nothing new was left in flight
-  pub none_new : (pieces : List (List Compact)) → log'.flight ≡ log.flight → ((s : ℕ) → (shards' s).flight ≡ (shards s).flight) → Flown K pieces lane log shards log' shards'
+  pub none_new : (pieces : List (List Compact)) → log'.flight ≡ log.flight → ((s : ℕ) → (shards' s).flight ≡ (shards s).flight)
+      → Flown K pieces lane log shards log' shards'
   none_new pieces here there = record { log_flown = inl here; shard_flown = λ s. inl (there s) }
 
   pub none_done : (pieces : List (List Compact)) → log' ≡ log → shards' ≡ shards → Flown K pieces lane log shards log' shards'
@@ -132,7 +144,8 @@ module _ (K : Shape) (lane : ℕ) (logs shards logs' shards' : ℕ → Sight) (s
     resume_flies taken mint submissions kept =
         let t = taken (still mint submissions kept) in
         flies [] mint submissions (pass_none (IsProperCompact submissions)) (none_new [] t.log_same t.shard_same)
-        (resume_keeps K lane logs shards logs' shards' some home shape elsewhere nodes nodes' log_nodes shard_nodes o told taken mint submissions kept)
+        (resume_keeps K lane logs shards logs' shards' some home shape elsewhere nodes nodes' log_nodes shard_nodes o told taken mint submissions
+        kept)
 
     pub left_flies : (e : LaneFault) → IsResumeStopped K true o log shards log' shards' e → OfKept K I (FliesOn K I J F G)
     left_flies e stop mint submissions kept =

@@ -1,5 +1,6 @@
 -- A Prepare that is in flight behind a turn was so before, or is that of the turn's batch, of which the lane has prepared nothing.
-use Rattle.std.proofs.Common.{◌≡◌, ◌≢◌, ◌⊎◌, ◌==◌, inl, inr, ℕ, zero, suc, ◌*◌, ◌/◌, ◌<◌, true, false, List, [], Option, Some, sym, ap, ◌∙◌, subst, arith, Contains}
+use Rattle.std.proofs.Common.{◌≡◌, ◌≢◌, ◌⊎◌, ◌==◌, inl, inr, ℕ, zero, suc, ◌*◌, ◌/◌, ◌<◌, true, false, List, [], Option, Some, sym, ap, ◌∙◌, subst}
+use Rattle.std.proofs.Common.{arith, Contains}
 use Rattle.std.proofs.lemmas.Nat.{div_below}
 use Rattle.std.proofs.lemmas.Bool.Decides.{eqb_tells}
 use Rattle.cbdc_types.specs.Limits.{IsWithinLimits}
@@ -42,8 +43,10 @@ no_piece : (txs : List Compact) → Contains [] txs → ⊥
 no_piece txs h = let lt : h.0 < 0 = h.1 in omega (arith, lt)
 
 module _ (K : Shape) (lane : ℕ) (logs shards logs' shards' : ℕ → Sight) (limits : IsWithinLimits K) (home : home_of K lane < K.coordinators)
-    (shape : (logs (home_of K lane)).header.shape ≡ K) (shard_shapes : (s : ℕ) → s < K.shards → (shards' s).header.shape ≡ K) (elsewhere : Elsewhere K lane logs logs')
-    (nodes : AreNodes K logs shards) (nodes' : AreNodes K logs' shards') (log_nodes : KeepNodes logs logs') (shard_nodes : KeepNodes shards shards') (next : AreNext K logs' shards')
+    (shape : (logs (home_of K lane)).header.shape ≡ K) (shard_shapes : (s : ℕ) → s < K.shards → (shards' s).header.shape ≡ K)
+    (elsewhere : Elsewhere K lane logs logs')
+    (nodes : AreNodes K logs shards) (nodes' : AreNodes K logs' shards') (log_nodes : KeepNodes logs logs') (shard_nodes : KeepNodes shards shards')
+    (next : AreNext K logs' shards')
     (m : Minted) (checked : CheckedJournals K m (seen_by K logs shards)) where
   abbrev I : ℕ → List Record
   I = seen_by K logs shards
@@ -80,9 +83,11 @@ module _ (K : Shape) (lane : ℕ) (logs shards logs' shards' : ℕ → Sight) (l
     -- where it was before, nothing was written at its node
     was_there : F n ≡ Some (Prepare t b txs) → HasPreparedPieces K b.lane [] I J
     was_there was = ap (prepared b.lane)
-        (subst (λ k. J k ≡ I k) at (still_here K lane logs shards logs' shards' limits.some_shard home shape elsewhere nodes nodes' log_nodes shard_nodes next n (Prepare t b txs) was))
+        (subst (λ k. J k ≡ I k) at (still_here K lane logs shards logs' shards' limits.some_shard home shape elsewhere nodes nodes' log_nodes
+        shard_nodes next n (Prepare t b txs) was))
 
-    flown_here : (pieces : List (List Compact)) → Flown K pieces lane log shards log' shards' → (F n ≡ Some (Prepare t b txs)) ⊎ ((b.lane ≡ lane) × Holds pieces (Prepare t b txs))
+    flown_here : (pieces : List (List Compact)) → Flown K pieces lane log shards log' shards'
+        → (F n ≡ Some (Prepare t b txs)) ⊎ ((b.lane ≡ lane) × Holds pieces (Prepare t b txs))
     flown_here pieces flown = go (eqb_tells n (home_of K lane))
       where
         here : G n ≡ (logs' n).flight
@@ -94,48 +99,60 @@ module _ (K : Shape) (lane : ℕ) (logs shards logs' shards' : ℕ → Sight) (l
         same_record : (q r : Record) → Some q ≡ Some r → q ≡ r
         same_record q r e = cc
 
-        go : (((n == home_of K lane) ≡ true) × (n ≡ home_of K lane)) ⊎ (((n == home_of K lane) ≡ false) × (n ≢ home_of K lane)) → (F n ≡ Some (Prepare t b txs)) ⊎ ((b.lane ≡ lane) × Holds pieces (Prepare t b txs))
+        go : (((n == home_of K lane) ≡ true) × (n ≡ home_of K lane)) ⊎ (((n == home_of K lane) ≡ false) × (n ≢ home_of K lane))
+            → (F n ≡ Some (Prepare t b txs)) ⊎ ((b.lane ≡ lane) × Holds pieces (Prepare t b txs))
         go (inr (d, other)) = inl (before ∙ ap (λ s. s.flight) (sym (elsewhere n other)) ∙ sym here ∙ is)
         go (inl (d, e)) = elim flown.log_flown [
           | inl same ↦ inl (before ∙ ap (λ k. (logs k).flight) e ∙ sym same ∙ ap (λ k. (logs' k).flight) (sym e) ∙ sym here ∙ is)
           | inr new ↦
-              let it : new.0 ≡ Prepare t b txs = same_record new.0 (Prepare t b txs) (sym new.1 ∙ ap (λ k. (logs' k).flight) (sym e) ∙ sym here ∙ is) in
+              let it : new.0 ≡ Prepare t b txs = same_record new.0 (Prepare t b txs) (sym new.1 ∙ ap (λ k. (logs' k).flight) (sym e) ∙ sym here ∙ is)
+              in
               inr (its_lane lane t b txs (subst (λ r. is_in_lane lane r ≡ true) it new.2), subst (Holds pieces) it new.4)
         ]
 
   -- where nothing new is a Prepare
-  launches_none : (due : ℕ → List Compact → Type 0) (pieces : List (List Compact)) → ((txs : List Compact) → Contains pieces txs → ⊥) → CheckedJournals K m J → Flown K pieces lane log shards log' shards' → Launches K due I J F G
+  launches_none : (due : ℕ → List Compact → Type 0) (pieces : List (List Compact)) → ((txs : List Compact) → Contains pieces txs → ⊥)
+      → CheckedJournals K m J → Flown K pieces lane log shards log' shards' → Launches K due I J F G
   launches_none due pieces none now flown n t b txs is = elim (flown_here now n t b txs is pieces flown) [
     | inl was ↦ inl (was, was_there now n t b txs is was)
     | inr new ↦ absurd (none txs new.1)
   ]
 
   -- nor is anything in flight that was not
-  nothing_new : (pieces : List (List Compact)) → log'.flight ≡ log.flight → ((s : ℕ) → (shards' s).flight ≡ (shards s).flight) → Flown K pieces lane log shards log' shards'
-  nothing_new pieces here there = none_new K lane logs shards logs' shards' limits.some_shard home shape elsewhere nodes nodes' log_nodes shard_nodes next pieces here there
+  nothing_new : (pieces : List (List Compact)) → log'.flight ≡ log.flight → ((s : ℕ) → (shards' s).flight ≡ (shards s).flight)
+      → Flown K pieces lane log shards log' shards'
+  nothing_new pieces here there = none_new K lane logs shards logs' shards' limits.some_shard home shape elsewhere nodes nodes' log_nodes shard_nodes
+      next pieces here there
 
   nothing_done : (pieces : List (List Compact)) → log' ≡ log → shards' ≡ shards → Flown K pieces lane log shards log' shards'
-  nothing_done pieces here there = none_done K lane logs shards logs' shards' limits.some_shard home shape elsewhere nodes nodes' log_nodes shard_nodes next pieces here there
+  nothing_done pieces here there = none_done K lane logs shards logs' shards' limits.some_shard home shape elsewhere nodes nodes' log_nodes
+      shard_nodes next pieces here there
 
   as_before : log'.flight ≡ log.flight → ((s : ℕ) → (shards' s).flight ≡ (shards s).flight) → SameFlights logs shards logs' shards'
-  as_before here there = same_flights K lane logs shards logs' shards' limits.some_shard home shape elsewhere nodes nodes' log_nodes shard_nodes here there
+  as_before here there = same_flights K lane logs shards logs' shards' limits.some_shard home shape elsewhere nodes nodes' log_nodes shard_nodes here
+      there
 
   module _ (o : OpenLane) (told : open_lane log.seen lane ≡ Some o) where
     unfinished_there : IsBatchUnfinished o.phase K o log shards
-    unfinished_there = still K lane logs shards logs' shards' limits home shape shard_shapes elsewhere nodes nodes' log_nodes shard_nodes m checked o told
+    unfinished_there = still K lane logs shards logs' shards' limits home shape shard_shapes elsewhere nodes nodes' log_nodes shard_nodes m checked o
+        told
 
-    pub resume_same : (IsBatchUnfinished o.phase K o log shards → IsTakenUp K true o.batch log shards log' shards') → SameFlights logs shards logs' shards'
+    pub resume_same : (IsBatchUnfinished o.phase K o log shards → IsTakenUp K true o.batch log shards log' shards')
+        → SameFlights logs shards logs' shards'
     resume_same taken = let up = taken unfinished_there in as_before up.log_same up.shard_same
 
-    pub resume_launches : (IsBatchUnfinished o.phase K o log shards → IsTakenUp K true o.batch log shards log' shards') → Launches K (λ _. Nothing) I J F G
+    pub resume_launches : (IsBatchUnfinished o.phase K o log shards → IsTakenUp K true o.batch log shards log' shards')
+        → Launches K (λ _. Nothing) I J F G
     resume_launches taken =
         let up = taken unfinished_there in
         launches_none (λ _. Nothing) [] no_piece
-        (taken_checked K lane logs shards logs' shards' limits home shape shard_shapes elsewhere nodes nodes' log_nodes shard_nodes m checked o told taken).checked (nothing_new [] up.log_same up.shard_same)
+        (taken_checked K lane logs shards logs' shards' limits home shape shard_shapes elsewhere nodes nodes' log_nodes shard_nodes m checked o told
+        taken).checked (nothing_new [] up.log_same up.shard_same)
 
     pub left_launches : (e : LaneFault) → IsResumeStopped K true o log shards log' shards' e → Launches K (λ _. Nothing) I J F G
     left_launches e stop = launches_none (λ _. Nothing) [] no_piece
-        (left_checked K lane logs shards logs' shards' limits home shape shard_shapes elsewhere nodes nodes' log_nodes shard_nodes m checked o told e stop).checked (flown stop)
+        (left_checked K lane logs shards logs' shards' limits home shape shard_shapes elsewhere nodes nodes' log_nodes shard_nodes m checked o told e
+        stop).checked (flown stop)
       where
         flown : IsResumeStopped K true o log shards log' shards' e → Flown K [] lane log shards log' shards'
         flown s = subst (λ l. Flown K [] l log shards log' shards') (told_lane log.seen lane o told) (s unfinished_there).3.flown

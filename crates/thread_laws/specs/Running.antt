@@ -82,12 +82,14 @@ pub record NodesSay (K : Shape) (logs shards logs' shards' : ℕ → Sight) : Ty
 -- all that is said of a wave, and of the nodes at which it ran
 abbrev pub AllSays : Shape → (ℕ → Sight) → (ℕ → Sight) → (ℕ → Sight) → (ℕ → Sight) → List LaneOf → List LaneOf → Type 0
 AllSays K logs shards logs' shards' old new =
-    WaveSays K (seen_by K logs shards) (seen_by K logs' shards') (flying K logs shards) (flying K logs' shards') (opened_by K logs' shards') (faults_by K logs' shards') (capacity_by K logs' shards') old new
+    WaveSays K (seen_by K logs shards) (seen_by K logs' shards') (flying K logs shards) (flying K logs' shards') (opened_by K logs' shards')
+    (faults_by K logs' shards') (capacity_by K logs' shards') old new
     × NodesSay K logs shards logs' shards'
 
 -- so it is where lanes ran
 abbrev pub WaveRanLaw : Type 0
-WaveRanLaw = (K : Shape) (logs shards logs' shards' : ℕ → Sight) (old new : List LaneOf) → WaveNodes K logs shards logs' shards' → length old ≡ K.coordinators * K.lanes
+WaveRanLaw = (K : Shape) (logs shards logs' shards' : ℕ → Sight) (old new : List LaneOf) → WaveNodes K logs shards logs' shards'
+    → length old ≡ K.coordinators * K.lanes
     → WaveRan K logs shards logs' shards' old new → AllSays K logs shards logs' shards' old new
 
 -- a lane's fresh seats are settled, where the journals are checked and all lanes are idle

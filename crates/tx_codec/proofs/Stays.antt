@@ -1,5 +1,6 @@
 -- With more bytes behind, what was read is read again, and a fault is met again unless a field was cut.
-use Rattle.std.proofs.Common.{◌≡◌, ◌≢◌, ◌⊎◌, inl, inr, ℕ, zero, suc, ◌+◌, ◌≤◌, ◌<◌, Bool, true, false, cond, ltb, List, [], ◌∷◌, ◌++◌, length, take, drop, Result, Ok, Err, refl, sym, ap, ◌∙◌, arith}
+use Rattle.std.proofs.Common.{◌≡◌, ◌≢◌, ◌⊎◌, inl, inr, ℕ, zero, suc, ◌+◌, ◌≤◌, ◌<◌, Bool, true, false, cond, ltb, List, [], ◌∷◌, ◌++◌, length, take}
+use Rattle.std.proofs.Common.{drop, Result, Ok, Err, refl, sym, ap, ◌∙◌, arith}
 use Rattle.std.proofs.lemmas.Bool.{cases_lt, lt-ltb, le-ltb}
 use Rattle.std.proofs.lemmas.List.{length-append, take-append-le, drop-append-le}
 use Rattle.base_types.specs.declared.faults.InputKind.{InputKind}
@@ -64,23 +65,29 @@ module _ (later : List ℕ) where
   unfolding items_at
   items_stay item each zero bytes = inr refl
   items_stay item each (suc n) bytes =
-      bind_stays (item bytes) (item (bytes ++ later)) (λ first. items_at item n first.1 >>= λ others. Ok (first.0 ∷ others.0, others.1)) (λ first. items_at item n first.1 >>= λ others. Ok (first.0 ∷ others.0, others.1)) (each bytes)
-      (λ first. bind_stays (items_at item n first.1) (items_at item n (first.1 ++ later)) (λ others. Ok (first.0 ∷ others.0, others.1)) (λ others. Ok (first.0 ∷ others.0, others.1)) (items_stay item each n first.1) (λ others. inr refl))
+      bind_stays (item bytes) (item (bytes ++ later)) (λ first. items_at item n first.1 >>= λ others. Ok (first.0 ∷ others.0, others.1))
+      (λ first. items_at item n first.1 >>= λ others. Ok (first.0 ∷ others.0, others.1)) (each bytes)
+      (λ first. bind_stays (items_at item n first.1) (items_at item n (first.1 ++ later)) (λ others. Ok (first.0 ∷ others.0, others.1))
+      (λ others. Ok (first.0 ∷ others.0, others.1)) (items_stay item each n first.1) (λ others. inr refl))
 
-  pub list_stays : {X : Type 0} (limit : ℕ) (item : List ℕ → Result (X × List ℕ) Fault) → ((bytes : List ℕ) → Stays later (item bytes) (item (bytes ++ later)))
+  pub list_stays : {X : Type 0} (limit : ℕ) (item : List ℕ → Result (X × List ℕ) Fault)
+      → ((bytes : List ℕ) → Stays later (item bytes) (item (bytes ++ later)))
       → (bytes : List ℕ) → Stays later (list_at limit item bytes) (list_at limit item (bytes ++ later))
   unfolding list_at
   list_stays limit item each bytes =
-      bind_stays (number_at bytes) (number_at (bytes ++ later)) (λ n. cond (ltb limit n.0) (Err (fault TooMany bytes)) (items_at item n.0 n.1)) (λ n. cond (ltb limit n.0) (Err (fault TooMany (bytes ++ later))) (items_at item n.0 n.1))
+      bind_stays (number_at bytes) (number_at (bytes ++ later)) (λ n. cond (ltb limit n.0) (Err (fault TooMany bytes)) (items_at item n.0 n.1))
+      (λ n. cond (ltb limit n.0) (Err (fault TooMany (bytes ++ later))) (items_at item n.0 n.1))
       (field_stays 8 number_of bytes)
       (λ n. guard_stays (ltb limit n.0) TooMany bytes (items_at item n.0 n.1) (items_at item n.0 (n.1 ++ later)) (items_stay item each n.0 n.1))
 
   witness_stays : (bytes : List ℕ) → Stays later (witness_at bytes) (witness_at (bytes ++ later))
   unfolding witness_at
   witness_stays bytes =
-      bind_stays (number_at bytes) (number_at (bytes ++ later)) (λ n. cond (ltb 4096 n.0) (Err (fault TooLong bytes)) (field_at n.0 (λ w. w) n.1)) (λ n. cond (ltb 4096 n.0) (Err (fault TooLong (bytes ++ later))) (field_at n.0 (λ w. w) n.1))
+      bind_stays (number_at bytes) (number_at (bytes ++ later)) (λ n. cond (ltb 4096 n.0) (Err (fault TooLong bytes)) (field_at n.0 (λ w. w) n.1))
+      (λ n. cond (ltb 4096 n.0) (Err (fault TooLong (bytes ++ later))) (field_at n.0 (λ w. w) n.1))
       (field_stays 8 number_of bytes)
-      (λ n. guard_stays (ltb 4096 n.0) TooLong bytes (field_at n.0 (λ w. w) n.1) (field_at n.0 (λ w. w) (n.1 ++ later)) (field_stays n.0 (λ (w : List ℕ). w) n.1))
+      (λ n. guard_stays (ltb 4096 n.0) TooLong bytes (field_at n.0 (λ w. w) n.1) (field_at n.0 (λ w. w) (n.1 ++ later))
+      (field_stays n.0 (λ (w : List ℕ). w) n.1))
 
   made : List Input → List Output → List (List ℕ) → FullTx
   made is os ws = record { inputs = is; outputs = os; witnesses = ws }
@@ -89,12 +96,15 @@ module _ (later : List ℕ) where
   unfolding transaction_at made
   transaction_stays bytes =
       bind_stays (list_at 255 input_at bytes) (list_at 255 input_at (bytes ++ later))
-      (λ is. list_at 255 output_at is.1 >>= λ os. list_at 255 witness_at os.1 >>= λ ws. Ok (made is.0 os.0 ws.0, ws.1)) (λ is. list_at 255 output_at is.1 >>= λ os. list_at 255 witness_at os.1 >>= λ ws. Ok (made is.0 os.0 ws.0, ws.1))
+      (λ is. list_at 255 output_at is.1 >>= λ os. list_at 255 witness_at os.1 >>= λ ws. Ok (made is.0 os.0 ws.0, ws.1))
+      (λ is. list_at 255 output_at is.1 >>= λ os. list_at 255 witness_at os.1 >>= λ ws. Ok (made is.0 os.0 ws.0, ws.1))
       (list_stays 255 input_at (field_stays 80 input_of) bytes)
       (λ is. bind_stays (list_at 255 output_at is.1) (list_at 255 output_at (is.1 ++ later))
-      (λ os. list_at 255 witness_at os.1 >>= λ ws. Ok (made is.0 os.0 ws.0, ws.1)) (λ os. list_at 255 witness_at os.1 >>= λ ws. Ok (made is.0 os.0 ws.0, ws.1))
+      (λ os. list_at 255 witness_at os.1 >>= λ ws. Ok (made is.0 os.0 ws.0, ws.1))
+      (λ os. list_at 255 witness_at os.1 >>= λ ws. Ok (made is.0 os.0 ws.0, ws.1))
       (list_stays 255 output_at (field_stays 40 output_of) is.1)
-      (λ os. bind_stays (list_at 255 witness_at os.1) (list_at 255 witness_at (os.1 ++ later)) (λ ws. Ok (made is.0 os.0 ws.0, ws.1)) (λ ws. Ok (made is.0 os.0 ws.0, ws.1))
+      (λ os. bind_stays (list_at 255 witness_at os.1) (list_at 255 witness_at (os.1 ++ later)) (λ ws. Ok (made is.0 os.0 ws.0, ws.1))
+      (λ ws. Ok (made is.0 os.0 ws.0, ws.1))
       (list_stays 255 witness_at witness_stays os.1) (λ ws. inr refl)))
 
 same_fault : (f g : Fault) (r : Result (FullTx × List ℕ) Fault) → r ≡ Err f → r ≡ Err g → f ≡ g
@@ -103,6 +113,11 @@ same_fault f g r e h = cc
 -- a bad field is the first one whatever comes behind
 pub bad_stays : (bytes : List ℕ) (bad : BadTx) → IsFirstFault bytes 0 bad → bad.kind ≢ Cut → (later : List ℕ) → IsFirstFault (bytes ++ later) 0 bad
 bad_stays bytes bad is kind later = elim (transaction_stays later bytes) [
-  | inl cut ↦ absurd (kind (ap (λ (f : Fault). f.kind) (same_fault (record { left = is.0; kind = bad.kind }) (record { left = cut.0; kind = Cut }) (transaction_at bytes) is.1 cut.1)))
-  | inr same ↦ (is.0 + length later, same ∙ ap (λ (r : Result (FullTx × List ℕ) Fault). further later r) is.1, omega (arith, is.2, length-append bytes later))
+  | inl cut ↦ absurd (kind (ap (λ (f : Fault). f.kind)
+      (same_fault (record { left = is.0; kind = bad.kind }) (record { left = cut.0; kind = Cut }) (transaction_at bytes) is.1 cut.1)))
+  | inr same ↦ (
+    is.0 + length later,
+    same ∙ ap (λ (r : Result (FullTx × List ℕ) Fault). further later r) is.1,
+    omega (arith, is.2, length-append bytes later),
+  )
 ]

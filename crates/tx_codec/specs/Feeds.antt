@@ -50,7 +50,8 @@ IsFeedBehind all (Err faults.Memory) state = state ≡ states.NoMemory
 
 -- a bad field, told
 abbrev pub JudgesBad : BadTx → Result Fed ReadFault × FeedState → Type 0
-JudgesBad bad r = ((bad.kind ≡ kinds.Cut) × (r.0 ≡ Ok feds.More) × (r.1 ≡ states.Cut bad)) ⊎ ((bad.kind ≢ kinds.Cut) × (r.0 ≡ Err (faults.Bad bad)) × (r.1 ≡ states.Failed bad))
+JudgesBad bad r = ((bad.kind ≡ kinds.Cut) × (r.0 ≡ Ok feds.More) × (r.1 ≡ states.Cut bad))
+    ⊎ ((bad.kind ≢ kinds.Cut) × (r.0 ≡ Err (faults.Bad bad)) × (r.1 ≡ states.Failed bad))
 
 -- what was read, told as an answer and a state
 abbrev pub JudgesRead : Result (FullTx × ℕ) ReadFault → ℕ → Result Fed ReadFault × FeedState → Type 0

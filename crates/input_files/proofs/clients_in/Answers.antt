@@ -15,5 +15,6 @@ returns-in-Ok-clause-short g c = let h = c.in-Ok.ensures.read in file_short c.ar
 pub returns-in-Err-clause-fault : goal.returns-in-Err-clause-fault
 returns-in-Err-clause-fault g c =
     let name = c.args.file.now.name.now in
-    stream_not_read c.args.file.now.place (g.I.Inbox.file c.args.inbox.now name) c.args.before (g.I.Inbox.count c.args.inbox.now name) (g.I.Inbox.count c.stream_clients.new.inbox name)
+    stream_not_read c.args.file.now.place (g.I.Inbox.file c.args.inbox.now name) c.args.before (g.I.Inbox.count c.args.inbox.now name)
+    (g.I.Inbox.count c.stream_clients.new.inbox name)
     c.in-Err.fault c.stream_answer.result c.stream_answer.ensures c.in-Err.ensures.fault

@@ -23,14 +23,17 @@ submissions-preserved c =
     record {
       same = dealt.count ∙ so.same;
       count = so.count;
-      lane = c.next_lane-lane.ensures.next i (so.lane ∙ ap (λ n. i % n) (sym so.count)) ∙ ap (λ n. (i + 1) % n) so.count ∙ ap (λ m. m % (K.coordinators * K.lanes)) (sym more);
+      lane = c.next_lane-lane.ensures.next i (so.lane ∙ ap (λ n. i % n) (sym so.count)) ∙ ap (λ n. (i + 1) % n) so.count
+          ∙ ap (λ m. m % (K.coordinators * K.lanes)) (sym more);
       within = omega (arith, c.next_lane-lane.ensures.below, so.count);
       sound = λ verdicts txs ruled.
           let its = ruled_at verdicts txs all i one ruled at.0 at.1 in
-          placed_from verdicts txs its.0 lane _ _ c.in_ok-place_one.field-0 (i, its.1, sym its.2) within (so.sound verdicts txs ruled) (placed_by verdicts its.0 one lane _ _ c.in_ok-place_one.field-0 its.3 dealt);
+          placed_from verdicts txs its.0 lane _ _ c.in_ok-place_one.field-0 (i, its.1, sym its.2) within (so.sound verdicts txs ruled)
+          (placed_by verdicts its.0 one lane _ _ c.in_ok-place_one.field-0 its.3 dealt);
       placed = λ verdicts txs ruled.
           let its = ruled_at verdicts txs all i one ruled at.0 at.1 in
-          let went = goes_on K verdicts txs i its.0 lane _ _ c.submissions.checked.items c.in_ok-place_one.field-0 its.1 its.2 so.lane within (so.placed verdicts txs ruled) (placed_by verdicts its.0 one lane _ _ c.in_ok-place_one.field-0 its.3 dealt) in
+          let went = goes_on K verdicts txs i its.0 lane _ _ c.submissions.checked.items c.in_ok-place_one.field-0 its.1 its.2 so.lane within
+          (so.placed verdicts txs ruled) (placed_by verdicts its.0 one lane _ _ c.in_ok-place_one.field-0 its.3 dealt) in
           rw (more, c.in_ok-push.ensures.items) went;
     }
 
@@ -44,7 +47,8 @@ returns c = λ verdicts txs ruled.
     let count : length c.submissions.yielded ≡ length txs = at.1 ∙ AllZip-long (IsRuled verdicts) txs c.args.ruled.items ruled in
     record {
       lanes = so.same;
-      sent = subst (λ f. AreSent K verdicts f c.submissions.lanes.items) (take_all (length c.submissions.yielded) txs (omega (arith, count))) placed.sent;
+      sent = subst (λ f. AreSent K verdicts f c.submissions.lanes.items) (take_all (length c.submissions.yielded) txs (omega (arith, count)))
+          placed.sent;
       sound = so.sound verdicts txs ruled;
       checked = record { count = placed.count ∙ count; each = placed.each };
     }

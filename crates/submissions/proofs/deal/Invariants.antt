@@ -12,5 +12,6 @@ invariant-submissions l = record {
   lane : l.lane ≡ length l.yielded % (l.fn.shape.coordinators * l.fn.shape.lanes);
   within : l.lane < l.fn.shape.coordinators * l.fn.shape.lanes;
   sound : (verdicts : VerdictsOf) (txs : List FullTx) → AllZip (IsRuled verdicts) txs l.fn.ruled.items → AreSentFrom verdicts txs l.lanes.items;
-  placed : (verdicts : VerdictsOf) (txs : List FullTx) → AllZip (IsRuled verdicts) txs l.fn.ruled.items → PlacedTo l.fn.shape verdicts txs (length l.yielded) l.lanes.items l.checked.items;
+  placed : (verdicts : VerdictsOf) (txs : List FullTx) → AllZip (IsRuled verdicts) txs l.fn.ruled.items
+      → PlacedTo l.fn.shape verdicts txs (length l.yielded) l.lanes.items l.checked.items;
 }

@@ -5,7 +5,8 @@ use Rattle.audit.proofs.handed.has_form.Goals as goal
 
 pub returns-in-Some : goal.returns-in-Some
 returns-in-Some c = λ txs t h lt is.
-    c.is_same_compact.ensures ∙ ap (λ x. same_compact x c.args.form.now) (form_at txs c.args.forms.now c.args.at t c.in-Some.own.now h lt is c.in-Some.ensures.lookup.1)
+    c.is_same_compact.ensures ∙ ap (λ x. same_compact x c.args.form.now)
+    (form_at txs c.args.forms.now c.args.at t c.in-Some.own.now h lt is c.in-Some.ensures.lookup.1)
 
 pub returns-in-None : goal.returns-in-None
 returns-in-None c = λ txs t h lt is. absurd (omega (arith, lt, as_many txs c.args.forms.now h, c.in-None.ensures.lookup))

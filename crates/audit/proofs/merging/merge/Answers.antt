@@ -13,7 +13,8 @@ use Rattle.audit.proofs.merging.merge.Goals as goal
 pub returns-clause-newest_first : goal.returns-clause-newest_first
 returns-clause-newest_first c = λ n.
     let whole : journals_below (read c.args.journals.now) 0 (length c.args.journals.now) n ≡ journal_in (read c.args.journals.now) n
-    = subst (λ k. journals_below (read c.args.journals.now) 0 k n ≡ journal_in (read c.args.journals.now) n) (length-map c.args.journals.now (λ j. j.now)) (all_nodes (read c.args.journals.now) n) in
+    = subst (λ k. journals_below (read c.args.journals.now) 0 k n ≡ journal_in (read c.args.journals.now) n)
+    (length-map c.args.journals.now (λ j. j.now)) (all_nodes (read c.args.journals.now) n) in
     ap (λ h. journal n (newest_first (read c.args.journals.now) h)) c.from_vec.ensures
     ∙ journal-reverse n (rows_at (read c.args.journals.now) c.in_ok-places.places.items)
     ∙ ap reverse (c.in_ok-places.ensures.journals n ∙ whole)

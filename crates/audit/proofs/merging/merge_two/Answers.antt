@@ -14,21 +14,27 @@ no_place = record { node = 0; index = 0 }
 pub places-preserved-then-goes_above : goal.places-preserved-then-goes_above
 unfolding no_place
 places-preserved-then-goes_above c = (
-  subst (λ v. MergedUpTo (rows_at (read c.args.journals.now) c.args.a.now) (rows_at (read c.args.journals.now) c.args.b.now) (rows_at (read c.args.journals.now) v) (c.places.i + 1) c.places.j) (sym c.in_ok-push.ensures.items)
-      (left_step (read c.args.journals.now) c.args.a.now c.args.b.now c.places.places.items c.places.i c.places.j (get_or c.args.a.now c.places.i no_place) (get_or c.args.b.now c.places.j no_place) no_place
+  subst (λ v. MergedUpTo (rows_at (read c.args.journals.now) c.args.a.now) (rows_at (read c.args.journals.now) c.args.b.now)
+      (rows_at (read c.args.journals.now) v) (c.places.i + 1) c.places.j) (sym c.in_ok-push.ensures.items)
+      (left_step (read c.args.journals.now) c.args.a.now c.args.b.now c.places.places.items c.places.i c.places.j
+      (get_or c.args.a.now c.places.i no_place) (get_or c.args.b.now c.places.j no_place) no_place
       c.places.invariant.0 c.places-test.true c.if-j-b.true refl refl (sym c.if-goes_above.ensures)),
   All-same (IsRecordPlace (read c.args.journals.now)) _ _ c.in_ok-push.ensures.items
-      (All-push (IsRecordPlace (read c.args.journals.now)) c.places.places.items _ c.places.invariant.1 (All-get_or (IsRecordPlace (read c.args.journals.now)) c.args.a.now c.places.i no_place c.places-test.true c.requires.left)),
+      (All-push (IsRecordPlace (read c.args.journals.now)) c.places.places.items _ c.places.invariant.1
+      (All-get_or (IsRecordPlace (read c.args.journals.now)) c.args.a.now c.places.i no_place c.places-test.true c.requires.left)),
 )
 
 pub places-preserved : goal.places-preserved
 unfolding no_place
 places-preserved c = (
-  subst (λ v. MergedUpTo (rows_at (read c.args.journals.now) c.args.a.now) (rows_at (read c.args.journals.now) c.args.b.now) (rows_at (read c.args.journals.now) v) c.places.i (c.places.j + 1)) (sym c.in_ok-push-2.ensures.items)
-      (right_step (read c.args.journals.now) c.args.a.now c.args.b.now c.places.places.items c.places.i c.places.j (get_or c.args.a.now c.places.i no_place) (get_or c.args.b.now c.places.j no_place) no_place
+  subst (λ v. MergedUpTo (rows_at (read c.args.journals.now) c.args.a.now) (rows_at (read c.args.journals.now) c.args.b.now)
+      (rows_at (read c.args.journals.now) v) c.places.i (c.places.j + 1)) (sym c.in_ok-push-2.ensures.items)
+      (right_step (read c.args.journals.now) c.args.a.now c.args.b.now c.places.places.items c.places.i c.places.j
+      (get_or c.args.a.now c.places.i no_place) (get_or c.args.b.now c.places.j no_place) no_place
       c.places.invariant.0 c.places-test.true c.if-j-b.true refl refl (sym c.if-goes_above.ensures)),
   All-same (IsRecordPlace (read c.args.journals.now)) _ _ c.in_ok-push-2.ensures.items
-      (All-push (IsRecordPlace (read c.args.journals.now)) c.places.places.items _ c.places.invariant.1 (All-get_or (IsRecordPlace (read c.args.journals.now)) c.args.b.now c.places.j no_place c.if-j-b.true c.requires.right)),
+      (All-push (IsRecordPlace (read c.args.journals.now)) c.places.places.items _ c.places.invariant.1
+      (All-get_or (IsRecordPlace (read c.args.journals.now)) c.args.b.now c.places.j no_place c.if-j-b.true c.requires.right)),
 )
 
 ends : (c : goal.In_ok-extend_from_slice-2) → (length c.args.a.now ≤ c.places.i) ⊎ (length c.args.b.now ≤ c.places.j)
@@ -38,21 +44,25 @@ ends c = elim c.places-test.branch [
 ]
 
 both : (c : goal.In_ok-extend_from_slice-2) → c.extend_from_slice-2.new.self.items
-    ≡ (c.places.places.items ++ take (length c.args.a.now - c.places.i) (drop c.places.i c.args.a.now)) ++ take (length c.args.b.now - c.places.j) (drop c.places.j c.args.b.now)
+    ≡ (c.places.places.items ++ take (length c.args.a.now - c.places.i) (drop c.places.i c.args.a.now))
+    ++ take (length c.args.b.now - c.places.j) (drop c.places.j c.args.b.now)
 both c = c.in_ok-extend_from_slice-2.ensures.items
     ∙ ap (λ l. l ++ take (length c.args.b.now - c.places.j) (drop c.places.j c.args.b.now)) c.in_ok-extend_from_slice.ensures.items
 
 pub returns-clause-journals : goal.returns-clause-journals
 returns-clause-journals c = λ apart.
-    (joined (read c.args.journals.now) c.args.a.now c.args.b.now c.places.places.items c.places.i c.places.j _ c.places.invariant.0 (ends c) (both c) apart).0
+    (joined (read c.args.journals.now) c.args.a.now c.args.b.now c.places.places.items c.places.i c.places.j _ c.places.invariant.0 (ends c) (both c)
+    apart).0
 
 pub returns-clause-rises : goal.returns-clause-rises
 returns-clause-rises c = λ apart.
-    (joined (read c.args.journals.now) c.args.a.now c.args.b.now c.places.places.items c.places.i c.places.j _ c.places.invariant.0 (ends c) (both c) apart).1
+    (joined (read c.args.journals.now) c.args.a.now c.args.b.now c.places.places.items c.places.i c.places.j _ c.places.invariant.0 (ends c) (both c)
+    apart).1
 
 pub returns-clause-places : goal.returns-clause-places
 returns-clause-places c =
-    all_joined (read c.args.journals.now) c.args.a.now c.args.b.now c.places.places.items c.places.i c.places.j _ (both c) c.requires.left c.requires.right c.places.invariant.1
+    all_joined (read c.args.journals.now) c.args.a.now c.args.b.now c.places.places.items c.places.i c.places.j _ (both c) c.requires.left
+    c.requires.right c.places.invariant.1
 
 pub offset_bounds-b-j-2 : goal.offset_bounds-b-j-2
 offset_bounds-b-j-2 c = grind (arith, common_steps)

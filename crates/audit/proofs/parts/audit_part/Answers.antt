@@ -6,13 +6,15 @@ use Rattle.audit.proofs.parts.audit_part.Goals as goal
 
 pub returns-in-Stopped : goal.returns-in-Stopped
 returns-in-Stopped g c =
-    part_verdict_of c.args.shape.now c.args.mint.now c.args.handed.now (rows_at (read c.args.journals.now) c.args.history.now) c.in-Stopped.place c.in-Stopped.kind
+    part_verdict_of c.args.shape.now c.args.mint.now c.args.handed.now (rows_at (read c.args.journals.now) c.args.history.now) c.in-Stopped.place
+    c.in-Stopped.kind
     (subst (IsWalked c.args.shape.now c.args.mint.now c.args.handed.now (read c.args.journals.now) c.args.history.now c.walk.new.fold) c.in-Stopped.is
     (c.in_ok-place.ensures c.args.mint.now c.in_ok-ids.ensures c.in_ok-fold.ensures))
 
 pub returns : goal.returns
 returns g c =
-    let w = subst (IsWalked c.args.shape.now c.args.mint.now c.args.handed.now (read c.args.journals.now) c.args.history.now c.walk.new.fold) c.in-Whole.is
+    let w = subst (IsWalked c.args.shape.now c.args.mint.now c.args.handed.now (read c.args.journals.now) c.args.history.now c.walk.new.fold)
+    c.in-Whole.is
     (c.in_ok-place.ensures c.args.mint.now c.in_ok-ids.ensures c.in_ok-fold.ensures) in
     record {
       book = w.2.left;

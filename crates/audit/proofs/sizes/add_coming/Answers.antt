@@ -26,7 +26,9 @@ txs-preserved c = λ J knows y.
       | then-is_won+in_ok-add_due w ↦
           let t = w.index-txs-at.result in
           more_step _ _ _ _ _ _ (outputs_more ts os at t o (drop_at ts at t lt w.index-txs-at.is) os_cut y (sym c.is_won.ensures ∙ w.if-is_won.true))
-          (ap (λ s. has s.hashes y) w.owed-is ∙ w.in_ok-add_due.ensures J knows y ∙ ap (λ l. has c.txs.owed.hashes y || (has l y && is_due K J c.args.batch.now y)) (w.as_slice-outputs.ensures ∙ ap (λ q. q.outputs) (sym w.index-txs-at.is))) ∙ before
+          (ap (λ s. has s.hashes y) w.owed-is ∙ w.in_ok-add_due.ensures J knows y
+          ∙ ap (λ l. has c.txs.owed.hashes y || (has l y && is_due K J c.args.batch.now y))
+          (w.as_slice-outputs.ensures ∙ ap (λ q. q.outputs) (sym w.index-txs-at.is))) ∙ before
       | else-is_won w ↦
           let t = there ts at lt in
           ap (λ s. has s.hashes y || (has (all_outputs (won_txs (drop (at + 1) ts) (drop (at + 1) os))) y && is_due K J c.args.batch.now y)) w.owed-is
@@ -41,5 +43,7 @@ returns c = λ J knows y.
     let os = c.outcomes_of-outcomes.result.now in
     let none = no_outputs ts os c.txs.at (λ p q. omega (arith, p, q)) in
     sym (or_false (has c.txs.owed.hashes y)) ∙ ap (λ l. has c.txs.owed.hashes y || (has l y && is_due K J b y)) (sym none) ∙ c.txs.invariant J knows y
-    ∙ ap (λ l. has c.args.owed.now.hashes y || (has (all_outputs (won_txs l os)) y && is_due K J b y)) (c.txs_of-txs.ensures J knows ∙ ap (λ n. txs_of (J n) b) c.home_of-home.ensures)
-    ∙ ap (λ l. has c.args.owed.now.hashes y || (has (all_outputs (won_txs (txs_of (J (home_of K b.lane)) b) l)) y && is_due K J b y)) (c.outcomes_of-outcomes.ensures J knows ∙ ap (λ n. outcomes_of (J n) b) c.home_of-home.ensures)
+    ∙ ap (λ l. has c.args.owed.now.hashes y || (has (all_outputs (won_txs l os)) y && is_due K J b y))
+    (c.txs_of-txs.ensures J knows ∙ ap (λ n. txs_of (J n) b) c.home_of-home.ensures)
+    ∙ ap (λ l. has c.args.owed.now.hashes y || (has (all_outputs (won_txs (txs_of (J (home_of K b.lane)) b) l)) y && is_due K J b y))
+    (c.outcomes_of-outcomes.ensures J knows ∙ ap (λ n. outcomes_of (J n) b) c.home_of-home.ensures)

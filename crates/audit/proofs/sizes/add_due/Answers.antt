@@ -14,14 +14,19 @@ hashes-preserved c = λ J knows y.
     let b = c.args.batch.now in
     let x = c.index-xs-at.result in
     let node : c.coordinators.result + c.shard_of.result ≡ K.coordinators + shard_of K.shards x =
-    ap (λ n. n + c.shard_of.result) c.coordinators.ensures.value ∙ ap (λ n. K.coordinators + n) (c.shard_of.ensures.value ∙ ap (λ n. shard_of n x) c.shards.ensures.value) in
+    ap (λ n. n + c.shard_of.result) c.coordinators.ensures.value
+    ∙ ap (λ n. K.coordinators + n) (c.shard_of.ensures.value ∙ ap (λ n. shard_of n x) c.shards.ensures.value) in
     let cut = drop_at c.args.xs.now c.hashes.at x c.hashes-test.true c.index-xs-at.is in
     let before = c.hashes.invariant J knows y in
     elim c.if-is_none.branch [
       | then-is_none+in_ok-add w ↦
-          add_found (is_due K J b) x y _ _ _ _ cut (subst (λ n. not (is_some (record_of finish_kind (J n) b)) ≡ true) node (is_missing c.found.result _ c.is_none.result (c.found.ensures J knows) c.is_none.ensures w.if-is_none.true))
+          add_found (is_due K J b) x y _ _ _ _ cut
+          (subst (λ n. not (is_some (record_of finish_kind (J n) b)) ≡ true) node
+          (is_missing c.found.result _ c.is_none.result (c.found.ensures J knows) c.is_none.ensures w.if-is_none.true))
           (ap (λ t. has t.hashes y) w.owed-is ∙ w.in_ok-add.ensures y) ∙ before
       | else-is_none w ↦
-          pass_found (is_due K J b) x y _ _ _ _ cut (subst (λ n. not (is_some (record_of finish_kind (J n) b)) ≡ false) node (is_found c.found.result _ c.is_none.result (c.found.ensures J knows) c.is_none.ensures w.if-is_none.false))
+          pass_found (is_due K J b) x y _ _ _ _ cut
+          (subst (λ n. not (is_some (record_of finish_kind (J n) b)) ≡ false) node
+          (is_found c.found.result _ c.is_none.result (c.found.ensures J knows) c.is_none.ensures w.if-is_none.false))
           (ap (λ t. has t.hashes y) w.owed-is) ∙ before
     ]

@@ -7,5 +7,6 @@ use Rattle.audit.specs.Waiting.{is_due}
 use Rattle.audit.proofs.sizes.add_due.Given as goal
 
 abbrev pub invariant-hashes : goal.invariant-hashes
-invariant-hashes l = (J : ℕ → List Record) → Knows (read l.journals) l.known J → (y : Digest) → (has l.owed.hashes y || (has (drop l.at l.xs) y && is_due l.shape J l.batch y))
+invariant-hashes l = (J : ℕ → List Record) → Knows (read l.journals) l.known J → (y : Digest)
+    → (has l.owed.hashes y || (has (drop l.at l.xs) y && is_due l.shape J l.batch y))
     ≡ (has l.initial.owed.hashes y || (has l.xs y && is_due l.shape J l.batch y))

@@ -5,7 +5,8 @@ use Rattle.audit.specs.Standing.{says, is_here, is_locked_by}
 use Rattle.audit.proofs.Standing.{drop_at}
 use Rattle.audit.proofs.Sizing.{and_true, add_found, pass_found, and_false, and_false_left}
 use Rattle.audit.proofs.sizes.add_locked.Goals as goal
-use Rattle.audit.proofs.sizes.add_locked.Goals.{then-is_here+then-is_locked_by+in_ok-add, else-is_here, else-is_here-via-then-is_here+else-is_locked_by, else-is_here-via-else-is_here}
+use Rattle.audit.proofs.sizes.add_locked.Goals.{then-is_here+then-is_locked_by+in_ok-add, else-is_here}
+use Rattle.audit.proofs.sizes.add_locked.Goals.{else-is_here-via-then-is_here+else-is_locked_by, else-is_here-via-else-is_here}
 
 pub hashes-preserved : goal.hashes-preserved
 hashes-preserved c = λ y.
@@ -16,7 +17,8 @@ hashes-preserved c = λ y.
     let before = c.hashes.invariant y in
     elim c.if-is_here.branch [
       | then-is_here+then-is_locked_by+in_ok-add w ↦
-          let passes : held x ≡ true = and_true _ _ (sym c.is_here.ensures ∙ w.if-is_here.true) (sym w.is_locked_by.ensures ∙ w.if-is_locked_by.true) in
+          let passes : held x ≡ true = and_true _ _ (sym c.is_here.ensures ∙ w.if-is_here.true) (sym w.is_locked_by.ensures ∙ w.if-is_locked_by.true)
+          in
           add_found held x y _ _ _ _ cut passes (ap (λ t. has t.hashes y) w.held-is ∙ w.in_ok-add.ensures y) ∙ before
       | else-is_here w ↦
           let fails : held x ≡ false = elim w.else-is_here.branch [

@@ -7,5 +7,7 @@ use Rattle.audit.proofs.sizes.add_waiting.Given as goal
 
 abbrev pub invariant-entries : goal.invariant-entries
 invariant-entries l = (y : Digest)
-    → (has l.held.hashes y || (has (waiting_inputs l.outcomes (drop l.at l.es)) y && (is_here l.shape l.node y && is_locked_by l.batch (says l.standing.statuses y))))
-    ≡ (has l.initial.held.hashes y || (has (waiting_inputs l.outcomes l.es) y && (is_here l.shape l.node y && is_locked_by l.batch (says l.standing.statuses y))))
+    → (has l.held.hashes y || (has (waiting_inputs l.outcomes (drop l.at l.es)) y
+    && (is_here l.shape l.node y && is_locked_by l.batch (says l.standing.statuses y))))
+    ≡ (has l.initial.held.hashes y || (has (waiting_inputs l.outcomes l.es) y
+    && (is_here l.shape l.node y && is_locked_by l.batch (says l.standing.statuses y))))

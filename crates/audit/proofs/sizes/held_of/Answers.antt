@@ -23,7 +23,8 @@ places-preserved c = λ y.
     let J : ℕ → List Record = λ n. journal n (newest_first all h) in
     let test : Row → Bool = λ row. holds_back K J row.node row.what y in
     row_step (has c.places.held.hashes y) _ (any_row test (rows_at all (drop (at + 1) h))) _
-    (c.in_ok-add_held_by.ensures J c.requires.known c.requires.statuses y ∙ ap (λ r. has c.places.held.hashes y || holds_back K J p.node r y) c.record_at-r.ensures)
+    (c.in_ok-add_held_by.ensures J c.requires.known c.requires.statuses y
+    ∙ ap (λ r. has c.places.held.hashes y || holds_back K J p.node r y) c.record_at-r.ensures)
     ∙ ap (λ l. has c.places.held.hashes y || any_row test (rows_at all l)) (sym (drop_more h at no_place c.places-test.true)) ∙ c.places.invariant y
 
 pub returns : goal.returns
@@ -34,4 +35,5 @@ returns c =
     let J : ℕ → List Record = λ n. journal n (newest_first all h) in
     waiting_count K (rows_at all h) c.places.held.hashes c.len.result c.len.ensures.set c.len.ensures.len
     (λ y. sym (or_false (has c.places.held.hashes y))
-    ∙ ap (λ l. has c.places.held.hashes y || any_row (λ row. holds_back K J row.node row.what y) (rows_at all l)) (sym (drop_end h c.places.at c.places-test.false)) ∙ c.places.invariant y)
+    ∙ ap (λ l. has c.places.held.hashes y || any_row (λ row. holds_back K J row.node row.what y) (rows_at all l))
+    (sym (drop_end h c.places.at c.places-test.false)) ∙ c.places.invariant y)

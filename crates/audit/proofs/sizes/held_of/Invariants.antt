@@ -7,5 +7,7 @@ use Rattle.audit.proofs.sizes.held_of.Given as goal
 
 abbrev pub invariant-places : goal.invariant-places
 invariant-places l = (y : Digest)
-    → (has l.held.hashes y || any_row (λ row. holds_back l.shape (λ n. journal n (newest_first (read l.journals) l.history)) row.node row.what y) (rows_at (read l.journals) (drop l.at l.history)))
-    ≡ any_row (λ row. holds_back l.shape (λ n. journal n (newest_first (read l.journals) l.history)) row.node row.what y) (rows_at (read l.journals) l.history)
+    → (has l.held.hashes y || any_row (λ row. holds_back l.shape (λ n. journal n (newest_first (read l.journals) l.history)) row.node row.what y)
+    (rows_at (read l.journals) (drop l.at l.history)))
+    ≡ any_row (λ row. holds_back l.shape (λ n. journal n (newest_first (read l.journals) l.history)) row.node row.what y)
+    (rows_at (read l.journals) l.history)

@@ -33,4 +33,5 @@ returns c =
     let J : ℕ → List Record = λ n. journal n (newest_first all h) in
     coming_count K (rows_at all h) c.places.owed.hashes c.len.result c.len.ensures.set c.len.ensures.len
     (λ y. sym (or_false (has c.places.owed.hashes y))
-    ∙ ap (λ l. has c.places.owed.hashes y || any_row (λ row. owes K J row.what y) (rows_at all l)) (sym (drop_end h c.places.at c.places-test.false)) ∙ c.places.invariant y)
+    ∙ ap (λ l. has c.places.owed.hashes y || any_row (λ row. owes K J row.what y) (rows_at all l)) (sym (drop_end h c.places.at c.places-test.false))
+    ∙ c.places.invariant y)

@@ -7,5 +7,6 @@ use Rattle.audit.proofs.sizes.owed_of.Given as goal
 
 abbrev pub invariant-places : goal.invariant-places
 invariant-places l = (y : Digest)
-    → (has l.owed.hashes y || any_row (λ row. owes l.shape (λ n. journal n (newest_first (read l.journals) l.history)) row.what y) (rows_at (read l.journals) (drop l.at l.history)))
+    → (has l.owed.hashes y || any_row (λ row. owes l.shape (λ n. journal n (newest_first (read l.journals) l.history)) row.what y)
+    (rows_at (read l.journals) (drop l.at l.history)))
     ≡ any_row (λ row. owes l.shape (λ n. journal n (newest_first (read l.journals) l.history)) row.what y) (rows_at (read l.journals) l.history)

@@ -12,16 +12,21 @@ use Rattle.audit_command.proofs.auditing.audit.Goals as goal
 pub returns-in-Err-clause-kept : goal.returns-in-Err-clause-kept
 returns-in-Err-clause-kept g c =
     let at = scene g.I.Inbox g.R.Rack g.O.Sink in
-    kept_not (audit_needs c.args.mint.now c.args.clients.now) (audit_promise g.R.Disk.Disk c.args.mint.now c.args.clients.now) (at c.args.inbox.now c.args.rack.now c.args.out.now) (at c.audit_all.new.inbox c.audit_all.new.rack c.args.out.now)
+    kept_not (audit_needs c.args.mint.now c.args.clients.now) (audit_promise g.R.Disk.Disk c.args.mint.now c.args.clients.now)
+    (at c.args.inbox.now c.args.rack.now c.args.out.now) (at c.audit_all.new.inbox c.audit_all.new.rack c.args.out.now)
     (c.audit_all.new.rack ≡ c.args.rack.now) (c.audit_all.new.inbox ≡ c.args.inbox.now) (λ of. absurd of) (λ of. absurd of) c.audit_all.ensures.files
-    c.in-Err.fault c.in-Err.ensures.fault (c.audit_all.ensures.held, inr c.in-Err.ensures.why) c.in-Err.ensures.untouched (inr c.audit_all.ensures.held) refl refl
+    c.in-Err.fault c.in-Err.ensures.fault (c.audit_all.ensures.held, inr c.in-Err.ensures.why) c.in-Err.ensures.untouched
+    (inr c.audit_all.ensures.held) refl refl
 
 pub returns-in-Ok-Sound-clause-kept : goal.returns-in-Ok-Sound-clause-kept
 returns-in-Ok-Sound-clause-kept g c =
     let at = scene g.I.Inbox g.R.Rack g.O.Sink in
-    let was = subst (λ v. WasAudited g.R.Disk.Disk (g.I.Inbox.file c.args.inbox.now) (disks_in g.R.Rack c.args.rack.now) (disks_in g.R.Rack c.audit_all.new.rack) c.args.mint.now c.args.clients.now v) c.in-Ok-Sound.field-0-is c.in-Ok-Sound.ensures.did in
-    kept_well (audit_needs c.args.mint.now c.args.clients.now) (audit_promise g.R.Disk.Disk c.args.mint.now c.args.clients.now) (at c.args.inbox.now c.args.rack.now c.args.out.now) (at c.audit_all.new.inbox c.audit_all.new.rack c.print.new.out)
-    (c.audit_all.new.rack ≡ c.args.rack.now) (c.audit_all.new.inbox ≡ c.args.inbox.now) (λ of. absurd of) (λ of. absurd of) c.audit_all.ensures.files c.print.result c.print.ensures.shown
+    let was = subst (λ v. WasAudited g.R.Disk.Disk (g.I.Inbox.file c.args.inbox.now) (disks_in g.R.Rack c.args.rack.now)
+    (disks_in g.R.Rack c.audit_all.new.rack) c.args.mint.now c.args.clients.now v) c.in-Ok-Sound.field-0-is c.in-Ok-Sound.ensures.did in
+    kept_well (audit_needs c.args.mint.now c.args.clients.now) (audit_promise g.R.Disk.Disk c.args.mint.now c.args.clients.now)
+    (at c.args.inbox.now c.args.rack.now c.args.out.now) (at c.audit_all.new.inbox c.audit_all.new.rack c.print.new.out)
+    (c.audit_all.new.rack ≡ c.args.rack.now) (c.audit_all.new.inbox ≡ c.args.inbox.now) (λ of. absurd of) (λ of. absurd of) c.audit_all.ensures.files
+    c.print.result c.print.ensures.shown
     (record {
       totals = c.in-Ok-Sound.totals;
       was = was;
@@ -35,7 +40,8 @@ returns-in-Ok-Unsound-clause-kept g c = record {
   did = λ well. absurd well;
   why = (
     c.audit_all.ensures.held,
-    inl (subst (λ v. WasAudited g.R.Disk.Disk (g.I.Inbox.file c.args.inbox.now) (disks_in g.R.Rack c.args.rack.now) (disks_in g.R.Rack c.audit_all.new.rack) c.args.mint.now c.args.clients.now v) c.in-Ok-Unsound.field-0-is c.in-Ok-Unsound.ensures.did),
+    inl (subst (λ v. WasAudited g.R.Disk.Disk (g.I.Inbox.file c.args.inbox.now) (disks_in g.R.Rack c.args.rack.now)
+        (disks_in g.R.Rack c.audit_all.new.rack) c.args.mint.now c.args.clients.now v) c.in-Ok-Unsound.field-0-is c.in-Ok-Unsound.ensures.did),
   );
   untouched = λ taken. absurd taken;
   spared = λ of. absurd of;

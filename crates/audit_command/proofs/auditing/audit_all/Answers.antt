@@ -20,19 +20,23 @@ returns-in-Err-all_clients_in-clause-why g c =
     inr (
       c.in-Ok.mint,
       c.in-Ok.ensures.read,
-      inl (first_later (g.I.Inbox.file c.mint_in.new.inbox) (g.I.Inbox.file c.args.inbox.now) c.mint_in.ensures.same (g.I.Inbox.count c.args.inbox.now) (g.I.Inbox.count c.mint_in.new.inbox) (g.I.Inbox.count c.all_clients_in.new.inbox)
+      inl (first_later (g.I.Inbox.file c.mint_in.new.inbox) (g.I.Inbox.file c.args.inbox.now) c.mint_in.ensures.same
+          (g.I.Inbox.count c.args.inbox.now) (g.I.Inbox.count c.mint_in.new.inbox) (g.I.Inbox.count c.all_clients_in.new.inbox)
           c.args.clients.now c.in-Err-all_clients_in.fault c.mint_in.ensures.later c.in-Err-all_clients_in.ensures.fault),
     )
 
 pub returns-in-Err-all_clients_in-clause-fault : goal.returns-in-Err-all_clients_in-clause-fault
 returns-in-Err-all_clients_in-clause-fault g c =
-    first_fault (g.I.Inbox.file c.mint_in.new.inbox) (g.I.Inbox.count c.mint_in.new.inbox) (g.I.Inbox.count c.all_clients_in.new.inbox) c.args.clients.now _ _ (λ place one. inr one)
-    (λ place one. inr (one_later (g.I.Inbox.count c.args.inbox.now) (g.I.Inbox.count c.mint_in.new.inbox) (g.I.Inbox.count c.all_clients_in.new.inbox) c.args.clients.now place c.mint_in.ensures.later one))
+    first_fault (g.I.Inbox.file c.mint_in.new.inbox) (g.I.Inbox.count c.mint_in.new.inbox) (g.I.Inbox.count c.all_clients_in.new.inbox)
+    c.args.clients.now _ _ (λ place one. inr one)
+    (λ place one. inr (one_later (g.I.Inbox.count c.args.inbox.now) (g.I.Inbox.count c.mint_in.new.inbox)
+    (g.I.Inbox.count c.all_clients_in.new.inbox) c.args.clients.now place c.mint_in.ensures.later one))
     c.in-Err-all_clients_in.fault c.in-Err-all_clients_in.ensures.fault
 
 pub returns-in-Err-clause-fault : goal.returns-in-Err-clause-fault
 returns-in-Err-clause-fault g c =
-    not_read_fault c.args.mint.now.place (g.I.Inbox.file c.args.inbox.now c.args.mint.now.name.now) mint_of_file (g.I.Inbox.count c.args.inbox.now c.args.mint.now.name.now) (g.I.Inbox.count c.mint_in.new.inbox c.args.mint.now.name.now) _ _
+    not_read_fault c.args.mint.now.place (g.I.Inbox.file c.args.inbox.now c.args.mint.now.name.now) mint_of_file
+    (g.I.Inbox.count c.args.inbox.now c.args.mint.now.name.now) (g.I.Inbox.count c.mint_in.new.inbox c.args.mint.now.name.now) _ _
     (λ file at. inl at) (λ file at rose. inl (at, rose)) c.in-Err.fault c.in-Err.ensures.fault
 
 pub returns-in-Err-clause-held : goal.returns-in-Err-clause-held
@@ -54,14 +58,20 @@ returns-clause-did g c =
     let now = g.R.Rack.held c.audit_on.new.rack in
     if_ok_and _ _ _ c.audit_on.result
     (λ v unchanged is.
-    let found : (was : IsAudited g.R.Disk.Disk held c.in-Ok.mint (joined c.in-Ok-all_clients_in.files.items) v) × HistoryHasRoom g.R.Disk.Disk held was.shape was.rows × HistoryIsHeld g.R.Disk.Disk held now was.shape (genesis_id c.in-Ok.mint) was.rows =
-    subst (λ (m : List Output). (was : IsAudited g.R.Disk.Disk held m (joined c.in-Ok-all_clients_in.files.items) v) × HistoryHasRoom g.R.Disk.Disk held was.shape was.rows × HistoryIsHeld g.R.Disk.Disk held now was.shape (genesis_id m) was.rows) c.as_slice.ensures
-    (subst (λ (h : List FullTx). (was : IsAudited g.R.Disk.Disk held c.as_slice.result.now h v) × HistoryHasRoom g.R.Disk.Disk held was.shape was.rows × HistoryIsHeld g.R.Disk.Disk held now was.shape (genesis_id c.as_slice.result.now) was.rows) all is) in
+    let found : (was : IsAudited g.R.Disk.Disk held c.in-Ok.mint (joined c.in-Ok-all_clients_in.files.items) v)
+    × HistoryHasRoom g.R.Disk.Disk held was.shape was.rows × HistoryIsHeld g.R.Disk.Disk held now was.shape (genesis_id c.in-Ok.mint) was.rows =
+    subst (λ (m : List Output). (was : IsAudited g.R.Disk.Disk held m (joined c.in-Ok-all_clients_in.files.items) v)
+    × HistoryHasRoom g.R.Disk.Disk held was.shape was.rows × HistoryIsHeld g.R.Disk.Disk held now was.shape (genesis_id m) was.rows)
+    c.as_slice.ensures
+    (subst (λ (h : List FullTx). (was : IsAudited g.R.Disk.Disk held c.as_slice.result.now h v)
+    × HistoryHasRoom g.R.Disk.Disk held was.shape was.rows
+    × HistoryIsHeld g.R.Disk.Disk held now was.shape (genesis_id c.as_slice.result.now) was.rows) all is) in
     record {
       mint = c.in-Ok.mint;
       handed = c.in-Ok-all_clients_in.files.items;
       read = c.in-Ok.ensures.read;
-      clients_read = are_read_same (g.I.Inbox.file c.mint_in.new.inbox) (g.I.Inbox.file c.args.inbox.now) c.mint_in.ensures.same c.args.clients.now c.in-Ok-all_clients_in.files.items 0 c.in-Ok-all_clients_in.ensures.read;
+      clients_read = are_read_same (g.I.Inbox.file c.mint_in.new.inbox) (g.I.Inbox.file c.args.inbox.now) c.mint_in.ensures.same c.args.clients.now
+          c.in-Ok-all_clients_in.files.items 0 c.in-Ok-all_clients_in.ensures.read;
       audited = found.0;
       room = found.1;
       holds = found.2;
@@ -77,7 +87,8 @@ returns-clause-why g c =
       c.in-Ok.ensures.read,
       inr (
         c.in-Ok-all_clients_in.files.items,
-        are_read_same (g.I.Inbox.file c.mint_in.new.inbox) (g.I.Inbox.file c.args.inbox.now) c.mint_in.ensures.same c.args.clients.now c.in-Ok-all_clients_in.files.items 0 c.in-Ok-all_clients_in.ensures.read,
+        are_read_same (g.I.Inbox.file c.mint_in.new.inbox) (g.I.Inbox.file c.args.inbox.now) c.mint_in.ensures.same c.args.clients.now
+            c.in-Ok-all_clients_in.files.items 0 c.in-Ok-all_clients_in.ensures.read,
         subst (λ m. WhyUnopened g.R.Disk.Disk (disks_in g.R.Rack c.args.rack.now) (disks_in g.R.Rack c.audit_on.new.rack) m e) c.as_slice.ensures why,
       ),
     ))

@@ -5,7 +5,9 @@ use Rattle.client_files.proofs.Ends.{file_ok, file_extra, file_fault}
 use Rattle.client_files.proofs.clients.read_clients.Goals as goal
 
 pub returns-in-None : goal.returns-in-None
-returns-in-None c = file_ok (length c.args.bytes.now) c.args.more (counted_behind c.args.before c.args.bytes.now) c.in-Ok.txs c.in-Ok.rest.now (search rules) c.in-None.ensures
+returns-in-None c = file_ok (length c.args.bytes.now) c.args.more (counted_behind c.args.before c.args.bytes.now) c.in-Ok.txs c.in-Ok.rest.now
+    (search rules) c.in-None.ensures
 
 pub returns-in-Some : goal.returns-in-Some
-returns-in-Some c = file_extra (length c.args.bytes.now) c.args.more (counted_behind c.args.before c.args.bytes.now) c.in-Ok.txs c.in-Ok.rest.now c.in-Some.fault (search rules) c.in-Some.ensures ∙ ap (λ (b : BadFile). Err b) (sym c.place.ensures)
+returns-in-Some c = file_extra (length c.args.bytes.now) c.args.more (counted_behind c.args.before c.args.bytes.now) c.in-Ok.txs c.in-Ok.rest.now
+    c.in-Some.fault (search rules) c.in-Some.ensures ∙ ap (λ (b : BadFile). Err b) (sym c.place.ensures)

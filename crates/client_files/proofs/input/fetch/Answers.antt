@@ -10,7 +10,8 @@ returns-then-branch-eq0-clause-bytes g c = λ file is.
     let ended = c.in_ok-read_more.ensures.end file now none in
     let joined = c.in_ok-read_more.ensures.bytes file now in
     let inside = c.pieces.invariant.inside in
-    c.from_vec.ensures ∙ at_end file c.pieces.bytes.items c.read_more.new.bytes.items 1073741824 so_far.0 so_far.1 (joined ∙ ap (λ (k : ℕ). c.pieces.bytes.items ++ take k (drop (length c.pieces.bytes.items) file)) none) ended inside
+    c.from_vec.ensures ∙ at_end file c.pieces.bytes.items c.read_more.new.bytes.items 1073741824 so_far.0 so_far.1
+    (joined ∙ ap (λ (k : ℕ). c.pieces.bytes.items ++ take k (drop (length c.pieces.bytes.items) file)) none) ended inside
 
 pub returns-then-branch-eq0-clause-more : goal.returns-then-branch-eq0-clause-more
 returns-then-branch-eq0-clause-more g c = λ file is.
@@ -28,7 +29,8 @@ pieces-preserved g c = record {
   read = λ file is.
       let now = c.pieces.invariant.same c.args.name.now ∙ is in
       let so_far = c.pieces.invariant.read file is in
-      one_piece file c.pieces.bytes.items c.read_more.new.bytes.items c.in_ok-read_more.field-0 so_far.0 so_far.1 (c.in_ok-read_more.ensures.bytes file now) c.in_ok-read_more.ensures.len.0;
+      one_piece file c.pieces.bytes.items c.read_more.new.bytes.items c.in_ok-read_more.field-0 so_far.0 so_far.1
+      (c.in_ok-read_more.ensures.bytes file now) c.in_ok-read_more.ensures.len.0;
 }
 
 pub returns-in_err-read_more-clause-same : goal.returns-in_err-read_more-clause-same

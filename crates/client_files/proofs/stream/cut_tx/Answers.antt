@@ -13,9 +13,12 @@ returns-clause-fault g c =
     let at = c.match-end.at in
     let had = c.args.had in
     let cut_at : CutAt bytes at = elim c.match-end.branch [
-      | in-Some w ↦ subst (λ (n : ℕ). CutAt bytes n) (sym w.at-is) (cut_some bytes c.args.feed.now.state c.end.result w.in-Some.field c.requires.going w.in-Some.is c.end.ensures.cut c.end.ensures.empty)
+      | in-Some w ↦ subst (λ (n : ℕ). CutAt bytes n) (sym w.at-is)
+          (cut_some bytes c.args.feed.now.state c.end.result w.in-Some.field c.requires.going w.in-Some.is c.end.ensures.cut c.end.ensures.empty)
       | in-None w ↦ subst (λ (n : ℕ). CutAt bytes n) (sym w.at-is) (cut_none bytes (c.end.ensures.none w.in-None.is))
     ] in
-    stops_on (λ bad. OfRead told had (IsFileCut told had (had - (c.args.start + at)) bad)) (λ bad. OfRead told had (MeetsBadField told transaction_at bytes bad))
-    (g.I.Inbox.count c.args.inbox.now name) (g.I.Inbox.count c.args.inbox.now name) (g.I.Inbox.count c.cut.new.inbox name) (g.I.Inbox.count c.cut.new.inbox name) c.cut.result
+    stops_on (λ bad. OfRead told had (IsFileCut told had (had - (c.args.start + at)) bad))
+    (λ bad. OfRead told had (MeetsBadField told transaction_at bytes bad))
+    (g.I.Inbox.count c.args.inbox.now name) (g.I.Inbox.count c.args.inbox.now name) (g.I.Inbox.count c.cut.new.inbox name)
+    (g.I.Inbox.count c.cut.new.inbox name) c.cut.result
     (λ bad cut. tx_cut told bytes had c.args.start at bad cut_at c.requires.start cut) (omega arith) (omega arith) c.cut.ensures.fault

@@ -19,9 +19,12 @@ returns-in_err-tx-clause-fault g c =
     let now = g.I.Inbox.file c.txs.inbox name in
     let old = c.args.window.now in
     let w = c.txs.window in
-    stops_out c.from_residual.result _ (λ bad. OfRead now w.had (MeetsBadField now transaction_at w.unread bad)) (λ bad. OfRead told old.had (MeetsBadField told (items_at transaction_at c.args.count) old.unread bad))
-    (g.I.Inbox.count c.args.inbox.now name) (g.I.Inbox.count c.txs.inbox name) (g.I.Inbox.count c.next_tx.new.inbox name) (g.I.Inbox.count c.next_tx.new.inbox name) c.from_residual.ensures.1
-    (λ bad meets. items_bad told c.args.count c.txs.i old w c.txs.txs bad c.txs-test.true c.txs.invariant.so_far (of_same told now w bad (c.txs.invariant.same name) meets))
+    stops_out c.from_residual.result _ (λ bad. OfRead now w.had (MeetsBadField now transaction_at w.unread bad))
+    (λ bad. OfRead told old.had (MeetsBadField told (items_at transaction_at c.args.count) old.unread bad))
+    (g.I.Inbox.count c.args.inbox.now name) (g.I.Inbox.count c.txs.inbox name) (g.I.Inbox.count c.next_tx.new.inbox name)
+    (g.I.Inbox.count c.next_tx.new.inbox name) c.from_residual.ensures.1
+    (λ bad meets. items_bad told c.args.count c.txs.i old w c.txs.txs bad c.txs-test.true c.txs.invariant.so_far
+    (of_same told now w bad (c.txs.invariant.same name) meets))
     (c.txs.invariant.later name) (le_refl _) c.in_err-tx.ensures.fault
 
 pub returns-in_err-tx-clause-same : goal.returns-in_err-tx-clause-same
@@ -40,7 +43,8 @@ pub txs-preserved : goal.txs-preserved
 txs-preserved g c =
     let name = c.args.name.now in
     record {
-      so_far = items_more (g.I.Inbox.file c.args.inbox.now name) (g.I.Inbox.file c.txs.inbox name) c.args.count c.txs.i c.args.window.now c.txs.window c.next_tx.new.window c.txs.txs _ c.in_ok-tx.tx
+      so_far = items_more (g.I.Inbox.file c.args.inbox.now name) (g.I.Inbox.file c.txs.inbox name) c.args.count c.txs.i c.args.window.now
+          c.txs.window c.next_tx.new.window c.txs.txs _ c.in_ok-tx.tx
           (c.txs.invariant.same name) c.txs-test.true c.txs.invariant.so_far c.in_ok-tx.ensures.taken c.in-Ok.ensures.ok;
       same = λ other. c.next_tx.ensures.same other ∙ c.txs.invariant.same other;
       later = λ other. le_trans (c.txs.invariant.later other) (c.next_tx.ensures.later other);
@@ -48,7 +52,8 @@ txs-preserved g c =
 
 pub returns-clause-taken : goal.returns-clause-taken
 returns-clause-taken g c =
-    items_took (g.I.Inbox.file c.args.inbox.now c.args.name.now) c.args.count c.txs.i c.args.window.now c.txs.window c.txs.txs c.txs-test.false c.txs.invariant.so_far
+    items_took (g.I.Inbox.file c.args.inbox.now c.args.name.now) c.args.count c.txs.i c.args.window.now c.txs.window c.txs.txs c.txs-test.false
+    c.txs.invariant.so_far
 
 pub returns-clause-later : goal.returns-clause-later
 returns-clause-later g c = c.txs.invariant.later

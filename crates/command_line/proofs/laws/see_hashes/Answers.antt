@@ -10,5 +10,6 @@ hashes-preserved c =
 
 pub returns : goal.returns
 returns c =
-    All-same (λ (h : List ℕ). length h ≡ 32) c.args.hashes.now (take c.hashes.hash-index c.args.hashes.now) (sym (take_all c.hashes.hash-index c.args.hashes.now (omega (arith, c.hashes-test.false))))
+    All-same (λ (h : List ℕ). length h ≡ 32) c.args.hashes.now (take c.hashes.hash-index c.args.hashes.now)
+    (sym (take_all c.hashes.hash-index c.args.hashes.now (omega (arith, c.hashes-test.false))))
     c.hashes.invariant

@@ -15,10 +15,12 @@ returns-else-place-eq-FIRST c =
     word_text c.args.words.now c.index-words-place.result place c.requires.inside c.index-words-place.is ∙ sym c.as_str-word.ensures.value
     in
     let before : word_at words (place - 1) ≡ c.as_str.result.now =
-    word_text c.args.words.now c.index-words-place-else-place-eq-FIRST.result (place - 1) (omega arith) c.index-words-place-else-place-eq-FIRST.is ∙ sym c.as_str.ensures.value
+    word_text c.args.words.now c.index-words-place-else-place-eq-FIRST.result (place - 1) (omega arith) c.index-words-place-else-place-eq-FIRST.is
+    ∙ sym c.as_str.ensures.value
     in
     let dashes : is_dashes (word_at words place) ≡ false = ap is_dashes text ∙ sym c.eq.ensures ∙ c.if-eq.false in
     let none : is_some (long_of (word_at words place)) ≡ false =
     ap (λ t. is_some (long_of t)) text ∙ none_mapped _ c.option_in.result _ c.option_in.ensures (sym c.is_some.ensures ∙ c.if-is_some.false)
     in
-    ap not (c.takes_next.ensures ∙ ap (λ t. lacks_value (long_of t)) (sym before)) ∙ own_word words place (omega arith) (sym c.requires.trailing ∙ c.if-trailing.false) dashes none
+    ap not (c.takes_next.ensures ∙ ap (λ t. lacks_value (long_of t)) (sym before))
+    ∙ own_word words place (omega arith) (sym c.requires.trailing ∙ c.if-trailing.false) dashes none

@@ -21,7 +21,8 @@ is_first : (name : Text) (words : List Text) (place : ℕ) (option : Option Opti
 is_first name words place None told some first = absurd (true≢false (sym some))
 is_first name words place (Some o) told some first = ap Some told.0 ∙ sym (first (is_named name words place _ told.1))
 
-is_none : (name : Text) (words : List Text) (place : ℕ) (option : Option OptionWord) → Told name words place option → is_some option ≡ false → names_option name words place ≡ false
+is_none : (name : Text) (words : List Text) (place : ℕ) (option : Option OptionWord) → Told name words place option → is_some option ≡ false
+    → names_option name words place ≡ false
 is_none name words place None told none = told
 is_none name words place (Some o) told none = absurd (true≢false none)
 
@@ -30,12 +31,14 @@ returns-then-is_some-clause-place c =
     let words = texts c.args.words.now in
     let long = length-map c.args.words.now Rattle.std.specs.Prelude.string_bytes in
     let inside : c.words.place < length words = omega arith in
-    is_first c.args.name.now words c.words.place c.option_there-option.result c.option_there-option.ensures (sym c.is_some.ensures ∙ c.if-is_some.true)
+    is_first c.args.name.now words c.words.place c.option_there-option.result c.option_there-option.ensures
+    (sym c.is_some.ensures ∙ c.if-is_some.true)
     (first_there c.args.name.now words c.words.place c.words.auto.place inside c.words.invariant.none)
 
 pub words-preserved : goal.words-preserved
 words-preserved c = record {
   trailing = c.is_trailing_behind-trailing.ensures;
   none = none_more c.args.name.now (texts c.args.words.now) c.words.place c.words.auto.place c.words.invariant.none
-      (is_none c.args.name.now (texts c.args.words.now) c.words.place c.option_there-option.result c.option_there-option.ensures (sym c.is_some.ensures ∙ c.if-is_some.false));
+      (is_none c.args.name.now (texts c.args.words.now) c.words.place c.option_there-option.result c.option_there-option.ensures
+      (sym c.is_some.ensures ∙ c.if-is_some.false));
 }

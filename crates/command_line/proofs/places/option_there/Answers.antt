@@ -14,8 +14,10 @@ returns-in-Some c =
     let text : word_at words c.args.place ≡ c.as_str.result.now =
     word_text c.args.words.now c.index-words-place.result c.args.place c.requires.inside c.index-words-place.is ∙ sym c.as_str.ensures.value
     in
-    let named : c.in-Some.found.now ≡ c.args.name.now = (bytes_eq-Decides c.in-Some.found.now c.args.name.now).0 (sym c.eq.ensures ∙ c.if-eq.true) in (
+    let named : c.in-Some.found.now ≡ c.args.name.now =
+    (bytes_eq-Decides c.in-Some.found.now c.args.name.now).0 (sym c.eq.ensures ∙ c.if-eq.true) in (
       refl,
-      ap (λ (b : Bool). cond b None (long_of (word_at words c.args.place))) (sym c.requires.trailing ∙ c.if-trailing.false) ∙ ap long_of text ∙ sym c.in-Some.ensures
+      ap (λ (b : Bool). cond b None (long_of (word_at words c.args.place))) (sym c.requires.trailing ∙ c.if-trailing.false) ∙ ap long_of text
+          ∙ sym c.in-Some.ensures
           ∙ ap (λ (n : Text). Some (n, option_map {T = Bor (List ℕ)} {U = List ℕ} (λ s. s.now) c.in-Some.value)) named,
     )

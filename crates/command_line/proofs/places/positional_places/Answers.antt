@@ -16,13 +16,16 @@ words-preserved c =
       places = elim c.if-is_positional.branch [
         | then-is_positional+in_ok-push w ↦
             ap (λ places. places.items) w.places-is ∙ w.in_ok-push.ensures.items
-            ∙ positional_joins words c.words.place c.words.places.items c.words.auto.place so_far (sym c.is_positional.ensures ∙ w.if-is_positional.true)
+            ∙ positional_joins words c.words.place c.words.places.items c.words.auto.place so_far
+            (sym c.is_positional.ensures ∙ w.if-is_positional.true)
         | else-is_positional w ↦
             ap (λ places. places.items) w.places-is
-            ∙ positional_stays words c.words.place c.words.places.items c.words.auto.place so_far (sym c.is_positional.ensures ∙ w.if-is_positional.false)
+            ∙ positional_stays words c.words.place c.words.places.items c.words.auto.place so_far
+            (sym c.is_positional.ensures ∙ w.if-is_positional.false)
       ];
     }
 
 pub returns : goal.returns
 returns c =
-    c.words.invariant.places ∙ ap (filter (is_positional (texts c.args.words.now))) (places_end c.args.words.now c.words.place c.words.auto.place c.words-test.false c.words.invariant.within)
+    c.words.invariant.places ∙ ap (filter (is_positional (texts c.args.words.now)))
+    (places_end c.args.words.now c.words.place c.words.auto.place c.words-test.false c.words.invariant.within)

@@ -5,4 +5,5 @@ use Rattle.command_line.proofs.AskedLemmas.{refused_repeats}
 use Rattle.command_line.proofs.request.run_request.Goals as goal
 
 pub returns-in-Err-clause-refused : goal.returns-in-Err-clause-refused
-returns-in-Err-clause-refused c = refused_repeats (texts c.args.words.now) _ c.in-Err.fault c.requires (λ bad. c.in-Err.ensures.none (ap (λ (e : WordsFault). Err e) bad))
+returns-in-Err-clause-refused c = refused_repeats (texts c.args.words.now) _ c.in-Err.fault c.requires
+    (λ bad. c.in-Err.ensures.none (ap (λ (e : WordsFault). Err e) bad))

@@ -30,7 +30,9 @@ returns-clause-complete g c r asked free =
       print_faults = misses_at g.row.N (length c.process.new.out.bytes.items) c.process.new.out.misses;
     } in
     let steady = unhindered plain before after
-    (λ name bytes is. steady_file (file_of old.files.items name) (file_of new.files.items name) bytes old.misses new.misses is (c.process.ensures.inbox name))
+    (λ name bytes is. steady_file (file_of old.files.items name) (file_of new.files.items name) bytes old.misses new.misses is
+    (c.process.ensures.inbox name))
     (λ n low. none_rose c.args.rack.misses c.process.result.rack.misses n low) (texts c.args.words.now) r asked free in
     ended (g.row.N ≤ length c.process.new.out.bytes.items) c.process.result.status (c.process.ensures.complete r asked steady)
-    (λ is. rose_full g.row.N (length c.args.out.now.bytes.items) (length c.process.new.out.bytes.items) c.args.out.now.misses c.process.new.out.misses (c.process.ensures.write_fault is))
+    (λ is. rose_full g.row.N (length c.args.out.now.bytes.items) (length c.process.new.out.bytes.items) c.args.out.now.misses
+    c.process.new.out.misses (c.process.ensures.write_fault is))

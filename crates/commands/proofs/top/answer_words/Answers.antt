@@ -11,7 +11,8 @@ use Rattle.command_line.proofs.Refused.{asked_law}
 use Rattle.commands.proofs.top.answer_words.Goals as goal
 
 pub returns-in-Ok-clause-cause : goal.returns-in-Ok-clause-cause
-returns-in-Ok-clause-cause g c = answered _ _ _ c.in-Ok.request _ c.answer_to-status.result c.in-Ok.ensures.asked c.answer_to-status.ensures.kept.cause
+returns-in-Ok-clause-cause g c = answered _ _ _ c.in-Ok.request _ c.answer_to-status.result c.in-Ok.ensures.asked
+    c.answer_to-status.ensures.kept.cause
 
 pub returns-in-Ok-clause-did : goal.returns-in-Ok-clause-did
 returns-in-Ok-clause-did g c well = (c.in-Ok.request, c.in-Ok.ensures.asked, c.answer_to-status.ensures.kept.did well)
@@ -21,17 +22,21 @@ returns-in-Ok-clause-why g c =
     let at = scene g.I.Inbox g.R.Rack g.O.Sink in
     let before = at c.args.inbox.now c.args.rack.now c.args.out.now in
     let after = at c.answer_to-status.new.inbox c.answer_to-status.new.rack c.answer_to-status.new.out in
-    told_by (Why g.R.Disk.Disk before after c.in-Ok.request) (AskedWhy g.R.Disk.Disk before after (texts c.args.words.now)) c.answer_to-status.result (λ a so. (c.in-Ok.request, c.in-Ok.ensures.asked, so)) c.answer_to-status.ensures.kept.why
+    told_by (Why g.R.Disk.Disk before after c.in-Ok.request) (AskedWhy g.R.Disk.Disk before after (texts c.args.words.now)) c.answer_to-status.result
+    (λ a so. (c.in-Ok.request, c.in-Ok.ensures.asked, so)) c.answer_to-status.ensures.kept.why
 
 pub returns-in-Ok-clause-refused_words : goal.returns-in-Ok-clause-refused_words
-returns-in-Ok-clause-refused_words g c refused = absurd (asked_law (texts c.args.words.now) c.in-Ok.request c.see_request.ensures c.in-Ok.ensures.asked refused)
+returns-in-Ok-clause-refused_words g c refused = absurd
+    (asked_law (texts c.args.words.now) c.in-Ok.request c.see_request.ensures c.in-Ok.ensures.asked refused)
 
 pub returns-in-Ok-clause-left : goal.returns-in-Ok-clause-left
-returns-in-Ok-clause-left g c not_well = ⊎_elim (λ same. inl same) (λ left. inr (c.in-Ok.request, c.in-Ok.ensures.asked, left)) (c.answer_to-status.ensures.kept.left not_well)
+returns-in-Ok-clause-left g c not_well = ⊎_elim (λ same. inl same) (λ left. inr (c.in-Ok.request, c.in-Ok.ensures.asked, left))
+    (c.answer_to-status.ensures.kept.left not_well)
 
 pub returns-in-Ok-clause-named : goal.returns-in-Ok-clause-named
 returns-in-Ok-clause-named g c =
-    asked_name (texts c.args.words.now) c.in-Ok.request (g.I.Inbox.count c.args.inbox.now) (g.I.Inbox.count c.answer_to-status.new.inbox) (Rose (g.O.Sink.count c.args.out.now) (g.O.Sink.count c.answer_to-status.new.out)) c.name_of-name.result.now c.answer_to-status.result
+    asked_name (texts c.args.words.now) c.in-Ok.request (g.I.Inbox.count c.args.inbox.now) (g.I.Inbox.count c.answer_to-status.new.inbox)
+    (Rose (g.O.Sink.count c.args.out.now) (g.O.Sink.count c.answer_to-status.new.out)) c.name_of-name.result.now c.answer_to-status.result
     c.in-Ok.ensures.asked c.answer_to-status.ensures.kept.cause c.name_of-name.ensures
 
 pub returns-in-Ok-clause-spared : goal.returns-in-Ok-clause-spared

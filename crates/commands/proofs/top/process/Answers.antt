@@ -23,8 +23,11 @@ returns-clause-did g c well =
       r,
       asked,
       did_by g.R.Disk.Disk before (g.I.Inbox.file inbox) (g.I.Inbox.count inbox) (disks_in g.R.Rack c.answer_words-status.new.rack)
-          (g.O.Sink.taken c.answer_words-status.new.out) (g.O.Sink.taken c.write_fault.new.out) (g.O.Sink.count c.answer_words-status.new.out) (g.O.Sink.count c.write_fault.new.out) c.answer_words-status.result.status
-          (λ text. printed_still (g.O.Sink.taken c.args.out.now) (g.O.Sink.taken c.answer_words-status.new.out) (g.O.Sink.taken c.write_fault.new.out) c.answer_words-status.result.name.now text c.write_fault.result c.answer_words-status.result.status c.write_fault.ensures.prints)
+          (g.O.Sink.taken c.answer_words-status.new.out) (g.O.Sink.taken c.write_fault.new.out) (g.O.Sink.count c.answer_words-status.new.out)
+          (g.O.Sink.count c.write_fault.new.out) c.answer_words-status.result.status
+          (λ text. printed_still (g.O.Sink.taken c.args.out.now) (g.O.Sink.taken c.answer_words-status.new.out)
+          (g.O.Sink.taken c.write_fault.new.out) c.answer_words-status.result.name.now text c.write_fault.result
+          c.answer_words-status.result.status c.write_fault.ensures.prints)
           r was,
     )
 
@@ -35,9 +38,11 @@ returns-clause-why g c =
     let inbox = c.answer_words-status.new.inbox in
     let mid = at inbox c.answer_words-status.new.rack c.answer_words-status.new.out in
     let after = at inbox c.answer_words-status.new.rack c.write_fault.new.out in
-    told_by (AskedWhy g.R.Disk.Disk before mid (texts c.args.words.now)) (AskedWhy g.R.Disk.Disk before after (texts c.args.words.now)) c.answer_words-status.result.status
+    told_by (AskedWhy g.R.Disk.Disk before mid (texts c.args.words.now)) (AskedWhy g.R.Disk.Disk before after (texts c.args.words.now))
+    c.answer_words-status.result.status
     (λ a why. why_by g.R.Disk.Disk before (g.I.Inbox.file inbox) (g.I.Inbox.count inbox) (disks_in g.R.Rack c.answer_words-status.new.rack)
-    (g.O.Sink.taken c.answer_words-status.new.out) (g.O.Sink.taken c.write_fault.new.out) (g.O.Sink.count c.answer_words-status.new.out) (g.O.Sink.count c.write_fault.new.out) a (texts c.args.words.now) why)
+    (g.O.Sink.taken c.answer_words-status.new.out) (g.O.Sink.taken c.write_fault.new.out) (g.O.Sink.count c.answer_words-status.new.out)
+    (g.O.Sink.count c.write_fault.new.out) a (texts c.args.words.now) why)
     c.answer_words-status.ensures.why
 
 pub returns-clause-left : goal.returns-clause-left
@@ -46,21 +51,26 @@ returns-clause-left g c ill =
     let inbox = c.answer_words-status.new.inbox in
     ⊎_elim (λ same. inl same)
     (λ left. inr (left_by g.R.Disk.Disk before (g.I.Inbox.file inbox) (g.I.Inbox.count inbox) (disks_in g.R.Rack c.answer_words-status.new.rack)
-    (g.O.Sink.taken c.answer_words-status.new.out) (g.O.Sink.taken c.write_fault.new.out) (g.O.Sink.count c.answer_words-status.new.out) (g.O.Sink.count c.write_fault.new.out) c.answer_words-status.result.status (texts c.args.words.now) left))
+    (g.O.Sink.taken c.answer_words-status.new.out) (g.O.Sink.taken c.write_fault.new.out) (g.O.Sink.count c.answer_words-status.new.out)
+    (g.O.Sink.count c.write_fault.new.out) c.answer_words-status.result.status (texts c.args.words.now) left))
     (c.answer_words-status.ensures.left ill)
 
 pub returns-clause-bad_words : goal.returns-clause-bad_words
 returns-clause-bad_words g c is =
-    subst (λ a. IsAnswerToWords (texts c.args.words.now) (g.I.Inbox.count c.args.inbox.now) (g.I.Inbox.count c.answer_words-status.new.inbox) (Rose (g.O.Sink.count c.args.out.now) (g.O.Sink.count c.answer_words-status.new.out)) a) is c.answer_words-status.ensures.cause
+    subst (λ a. IsAnswerToWords (texts c.args.words.now) (g.I.Inbox.count c.args.inbox.now) (g.I.Inbox.count c.answer_words-status.new.inbox)
+    (Rose (g.O.Sink.count c.args.out.now) (g.O.Sink.count c.answer_words-status.new.out)) a) is c.answer_words-status.ensures.cause
 
 pub returns-clause-read_fault : goal.returns-clause-read_fault
 returns-clause-read_fault g c file is =
-    subst (λ a. IsAnswerToWords (texts c.args.words.now) (g.I.Inbox.count c.args.inbox.now) (g.I.Inbox.count c.answer_words-status.new.inbox) (Rose (g.O.Sink.count c.args.out.now) (g.O.Sink.count c.answer_words-status.new.out)) a) is c.answer_words-status.ensures.cause
+    subst (λ a. IsAnswerToWords (texts c.args.words.now) (g.I.Inbox.count c.args.inbox.now) (g.I.Inbox.count c.answer_words-status.new.inbox)
+    (Rose (g.O.Sink.count c.args.out.now) (g.O.Sink.count c.answer_words-status.new.out)) a) is c.answer_words-status.ensures.cause
 
 pub returns-clause-write_fault : goal.returns-clause-write_fault
 returns-clause-write_fault g c is =
-    rose_later (g.O.Sink.count c.args.out.now) (g.O.Sink.count c.args.out.now) (g.O.Sink.count c.answer_words-status.new.out) (g.O.Sink.count c.write_fault.new.out) (omega arith) c.write_fault.ensures.cause.later
-    (subst (λ a. IsAnswerToWords (texts c.args.words.now) (g.I.Inbox.count c.args.inbox.now) (g.I.Inbox.count c.answer_words-status.new.inbox) (Rose (g.O.Sink.count c.args.out.now) (g.O.Sink.count c.answer_words-status.new.out)) a) is c.answer_words-status.ensures.cause)
+    rose_later (g.O.Sink.count c.args.out.now) (g.O.Sink.count c.args.out.now) (g.O.Sink.count c.answer_words-status.new.out)
+    (g.O.Sink.count c.write_fault.new.out) (omega arith) c.write_fault.ensures.cause.later
+    (subst (λ a. IsAnswerToWords (texts c.args.words.now) (g.I.Inbox.count c.args.inbox.now) (g.I.Inbox.count c.answer_words-status.new.inbox)
+    (Rose (g.O.Sink.count c.args.out.now) (g.O.Sink.count c.answer_words-status.new.out)) a) is c.answer_words-status.ensures.cause)
 
 pub returns-clause-refused_words : goal.returns-clause-refused_words
 returns-clause-refused_words g c refused = c.answer_words-status.ensures.refused_words refused
@@ -71,12 +81,15 @@ returns-clause-fault_line g c =
     let mid = g.O.Sink.count c.answer_words-status.new.out in
     let now = g.O.Sink.count c.write_fault.new.out in
     let at = scene g.I.Inbox g.R.Rack g.O.Sink in
-    fault_printed (at c.args.inbox.now c.args.rack c.args.out.now) (at c.answer_words-status.new.inbox c.answer_words-status.new.rack c.write_fault.new.out)
-    (texts c.args.words.now) (g.O.Sink.taken c.answer_words-status.new.out) c.answer_words-status.result.name.now c.write_fault.result c.answer_words-status.result.status
+    fault_printed (at c.args.inbox.now c.args.rack c.args.out.now)
+    (at c.answer_words-status.new.inbox c.answer_words-status.new.rack c.write_fault.new.out)
+    (texts c.args.words.now) (g.O.Sink.taken c.answer_words-status.new.out) c.answer_words-status.result.name.now c.write_fault.result
+    c.answer_words-status.result.status
     c.answer_words-status.ensures.silent
     c.answer_words-status.ensures.named
     c.write_fault.ensures.prints
-    (on_err_weaker c.write_fault.result (rose_later before mid now now c.answer_words-status.ensures.written_later (omega arith)) c.write_fault.ensures.cause.failed)
+    (on_err_weaker c.write_fault.result (rose_later before mid now now c.answer_words-status.ensures.written_later (omega arith))
+    c.write_fault.ensures.cause.failed)
 
 pub returns-clause-complete : goal.returns-clause-complete
 returns-clause-complete g c r asked free =
@@ -86,26 +99,33 @@ returns-clause-complete g c r asked free =
     let mid = at inbox c.answer_words-status.new.rack c.answer_words-status.new.out in
     let after = at inbox c.answer_words-status.new.rack c.write_fault.new.out in
     complete g.R.Disk.Disk before after (texts c.args.words.now) r asked free c.answer_words-status.result.status
-    (told_by (AskedWhy g.R.Disk.Disk before mid (texts c.args.words.now)) (AskedWhy g.R.Disk.Disk before after (texts c.args.words.now)) c.answer_words-status.result.status
+    (told_by (AskedWhy g.R.Disk.Disk before mid (texts c.args.words.now)) (AskedWhy g.R.Disk.Disk before after (texts c.args.words.now))
+    c.answer_words-status.result.status
     (λ a why. why_by g.R.Disk.Disk before (g.I.Inbox.file inbox) (g.I.Inbox.count inbox) (disks_in g.R.Rack c.answer_words-status.new.rack)
-    (g.O.Sink.taken c.answer_words-status.new.out) (g.O.Sink.taken c.write_fault.new.out) (g.O.Sink.count c.answer_words-status.new.out) (g.O.Sink.count c.write_fault.new.out) a (texts c.args.words.now) why)
+    (g.O.Sink.taken c.answer_words-status.new.out) (g.O.Sink.taken c.write_fault.new.out) (g.O.Sink.count c.answer_words-status.new.out)
+    (g.O.Sink.count c.write_fault.new.out) a (texts c.args.words.now) why)
     c.answer_words-status.ensures.why)
-    (λ is. subst (λ a. IsAnswerToWords (texts c.args.words.now) (g.I.Inbox.count c.args.inbox.now) (g.I.Inbox.count inbox) (Rose (g.O.Sink.count c.args.out.now) (g.O.Sink.count c.answer_words-status.new.out)) a) is c.answer_words-status.ensures.cause)
+    (λ is. subst (λ a. IsAnswerToWords (texts c.args.words.now) (g.I.Inbox.count c.args.inbox.now) (g.I.Inbox.count inbox)
+    (Rose (g.O.Sink.count c.args.out.now) (g.O.Sink.count c.answer_words-status.new.out)) a) is c.answer_words-status.ensures.cause)
 
 pub returns-clause-exact : goal.returns-clause-exact
 returns-clause-exact g c r asked came =
     let at = scene g.I.Inbox g.R.Rack g.O.Sink in
     let inbox = c.answer_words-status.new.inbox in
-    exact g.R.Disk.Disk (at c.args.inbox.now c.args.rack c.args.out.now) (at c.answer_words-status.new.inbox c.answer_words-status.new.rack c.answer_words-status.new.out)
+    exact g.R.Disk.Disk (at c.args.inbox.now c.args.rack c.args.out.now)
+    (at c.answer_words-status.new.inbox c.answer_words-status.new.rack c.answer_words-status.new.out)
     (texts c.args.words.now) r c.answer_words-status.result.status asked (⊎_elim (λ well. inl (c.answer_words-status.ensures.did well))
-    (λ later. inr (later_by g.R.Disk.Disk (at c.args.inbox.now c.args.rack c.args.out.now) (g.I.Inbox.file inbox) (g.I.Inbox.count inbox) (disks_in g.R.Rack c.answer_words-status.new.rack)
-    (g.O.Sink.taken c.answer_words-status.new.out) (g.O.Sink.taken c.write_fault.new.out) (g.O.Sink.count c.answer_words-status.new.out) (g.O.Sink.count c.write_fault.new.out) c.answer_words-status.result.status r later)) came)
+    (λ later. inr (later_by g.R.Disk.Disk (at c.args.inbox.now c.args.rack c.args.out.now) (g.I.Inbox.file inbox) (g.I.Inbox.count inbox)
+    (disks_in g.R.Rack c.answer_words-status.new.rack)
+    (g.O.Sink.taken c.answer_words-status.new.out) (g.O.Sink.taken c.write_fault.new.out) (g.O.Sink.count c.answer_words-status.new.out)
+    (g.O.Sink.count c.write_fault.new.out) c.answer_words-status.result.status r later)) came)
 
 pub returns-clause-survives : goal.returns-clause-survives
 returns-clause-survives g c K mint submissions E within shown kept whatever =
     let e = c.answer_words-status.ensures in
     let at = scene g.I.Inbox g.R.Rack g.O.Sink in
-    let made = survives g.R.Disk.Disk c.see_images.ensures (at c.args.inbox.now c.args.rack c.args.out.now) (at c.answer_words-status.new.inbox c.answer_words-status.new.rack c.answer_words-status.new.out)
+    let made = survives g.R.Disk.Disk c.see_images.ensures (at c.args.inbox.now c.args.rack c.args.out.now)
+    (at c.answer_words-status.new.inbox c.answer_words-status.new.rack c.answer_words-status.new.out)
     K mint submissions E within shown kept (texts c.args.words.now) whatever
     (λ of n. ap (λ r. g.R.Rack.held r n) (e.spared of)) c.answer_words-status.result.status e.did
     (λ ill. ⊎_elim (λ same. inl (λ (n : ℕ). ap (λ r. g.R.Rack.held r n) same)) (λ left. inr left) (e.left ill)) in

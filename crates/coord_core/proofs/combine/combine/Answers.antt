@@ -10,7 +10,8 @@ use Rattle.coord_core.proofs.combine.combine.Goals as goal
 
 pub loop-preserved : goal.loop-preserved
 loop-preserved c = record {
-  held = held_step c.args.masks.now c.loop.index c.loop.outcomes.items c.push_reserved.new.self.items c.loop-test.true c.loop.invariant.held c.push_reserved.ensures.items;
+  held = held_step c.args.masks.now c.loop.index c.loop.outcomes.items c.push_reserved.new.self.items c.loop-test.true c.loop.invariant.held
+      c.push_reserved.ensures.items;
   count = omega arith;
   room = omega arith;
 }
@@ -23,7 +24,8 @@ loop-i-init c = record {
   combined = grind (arith, common_steps);
   count = omega arith;
   within = omega arith;
-  grammar = λ K rise named. let P : List Outcome → Type 0 = λ os. All (λ o. IsOutcome K o) os in subst P (sym c.loop.invariant.held) (won_outcomes K _);
+  grammar = λ K rise named. let P : List Outcome → Type 0 = λ os. All (λ o. IsOutcome K o) os in
+      subst P (sym c.loop.invariant.held) (won_outcomes K _);
 }
 
 pub loop-i-preserved : goal.loop-i-preserved
@@ -33,6 +35,7 @@ loop-i-preserved c = record {
   within = omega arith;
   grammar = λ K rise named.
       c.tell.ensures.grammar K (rises_at 0 K.shards c.args.replies.now (c.loop-i.i - 1) c.index-replies-i.result rise (omega arith))
-      (let P : List Reply → Type 0 = λ rs. All (λ r. NamesBatch K r) rs in subst P (sym c.as_slice.ensures) (named_at K c.args.replies.now (c.loop-i.i - 1) c.index-replies-i-in-loop-i.result named (omega arith)))
+      (let P : List Reply → Type 0 = λ rs. All (λ r. NamesBatch K r) rs in
+      subst P (sym c.as_slice.ensures) (named_at K c.args.replies.now (c.loop-i.i - 1) c.index-replies-i-in-loop-i.result named (omega arith)))
       (c.loop-i.invariant.grammar K rise named);
 }

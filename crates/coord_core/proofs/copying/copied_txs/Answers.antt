@@ -17,7 +17,8 @@ loop-tx-preserved c = record {
       ∙ ap (λ t. take c.loop-tx.tx-index c.args.txs.now ++ t ∷ []) (c.in_ok-copied_tx.ensures.same ∙ c.tx-item.is)
       ∙ sym (take_more c.args.txs.now c.loop-tx.tx-index c.tx-item.result c.loop-tx-test.true);
   sizes = All-same AreHashed c.push_reserved.new.self.items _ c.push_reserved.ensures.items
-      (All-push AreHashed c.loop-tx.copied.items _ c.loop-tx.invariant.sizes (subst AreHashed (sym c.in_ok-copied_tx.ensures.same) c.in_ok-copied_tx.ensures.sizes));
+      (All-push AreHashed c.loop-tx.copied.items _ c.loop-tx.invariant.sizes
+      (subst AreHashed (sym c.in_ok-copied_tx.ensures.same) c.in_ok-copied_tx.ensures.sizes));
   count = omega arith;
   room = c.push_reserved.ensures.capacity ∙ c.loop-tx.invariant.room;
 }

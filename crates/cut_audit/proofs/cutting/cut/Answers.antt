@@ -13,7 +13,8 @@ returns-clause-lists c = λ n.
     let all = read c.args.lists.now in
     let s = c.least_last-stamp.result in
     let whole = c.in_ok-history.history in
-    let rows = cut_rows all s whole _ (ap (rows_at all) c.from_vec.ensures ∙ c.in_ok-places.ensures.rows ∙ ap (λ h. rows_up_to s (rows_at all h)) c.as_slice.ensures) in
+    let rows = cut_rows all s whole _ (ap (rows_at all) c.from_vec.ensures ∙ c.in_ok-places.ensures.rows
+    ∙ ap (λ h. rows_up_to s (rows_at all h)) c.as_slice.ensures) in
     ap (journal n) rows ∙ journal_up_to s n (newest_first all whole) ∙ ap (up_to s) (c.in_ok-history.ensures.newest_first n)
 
 pub returns-clause-ordered : goal.returns-clause-ordered
@@ -21,7 +22,8 @@ returns-clause-ordered c = λ rises.
     let all = read c.args.lists.now in
     let s = c.least_last-stamp.result in
     let whole = c.in_ok-history.history in
-    let rows = cut_rows all s whole _ (ap (rows_at all) c.from_vec.ensures ∙ c.in_ok-places.ensures.rows ∙ ap (λ h. rows_up_to s (rows_at all h)) c.as_slice.ensures) in
+    let rows = cut_rows all s whole _ (ap (rows_at all) c.from_vec.ensures ∙ c.in_ok-places.ensures.rows
+    ∙ ap (λ h. rows_up_to s (rows_at all h)) c.as_slice.ensures) in
     subst IsOrdered (sym rows) (ordered_up_to s (newest_first all whole) (c.in_ok-history.ensures.ordered rises))
 
 pub returns-clause-moment : goal.returns-clause-moment

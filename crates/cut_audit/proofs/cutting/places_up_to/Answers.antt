@@ -22,13 +22,15 @@ places-preserved c =
       | then-stamp_of-stamp+in_ok-push w ↦
           let le = w.if-stamp_of-stamp.true in
           let items = ap (λ v. v.items) w.places-is ∙ w.in_ok-push.ensures.items in (
-            taken_more all h s c.places.at p no_place c.record_at.result.now c.places.places.items c.places-test.true refl c.record_at.ensures c.places.invariant.0 (within s _ (omega (arith, le, stamp))) _ items,
+            taken_more all h s c.places.at p no_place c.record_at.result.now c.places.places.items c.places-test.true refl c.record_at.ensures
+                c.places.invariant.0 (within s _ (omega (arith, le, stamp))) _ items,
             All-same (IsRecordPlace all) _ _ items (All-push (IsRecordPlace all) c.places.places.items p c.places.invariant.1 inside),
           )
       | else-stamp_of-stamp w ↦
           let lt = w.if-stamp_of-stamp.false in
           let items = ap (λ v. v.items) w.places-is in (
-            ap (rows_at all) items ∙ left_out all h s c.places.at p no_place c.record_at.result.now c.places.places.items c.places-test.true refl c.record_at.ensures c.places.invariant.0 (beyond s _ (omega (arith, lt, stamp))),
+            ap (rows_at all) items ∙ left_out all h s c.places.at p no_place c.record_at.result.now c.places.places.items c.places-test.true refl
+                c.record_at.ensures c.places.invariant.0 (beyond s _ (omega (arith, lt, stamp))),
             All-same (IsRecordPlace all) _ _ items c.places.invariant.1,
           )
     ]

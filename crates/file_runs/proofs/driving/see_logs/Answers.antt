@@ -7,8 +7,10 @@ use Rattle.file_runs.proofs.driving.see_logs.Goals as goal
 
 pub logs-preserved : goal.logs-preserved
 logs-preserved g c = record {
-  journals = All-more (λ l. IsJournal l.header l.journal) c.args.logs.now c.logs.log-index c.log-item.result c.logs-test.true c.logs.invariant.journals (subst (λ l. IsJournal l.header l.journal) c.log-item.is c.records-records.ensures.journal);
-  next = All-more FliesNext c.args.logs.now c.logs.log-index c.log-item.result c.logs-test.true c.logs.invariant.next (subst FliesNext c.log-item.is c.records-records.ensures.flying);
+  journals = All-more (λ l. IsJournal l.header l.journal) c.args.logs.now c.logs.log-index c.log-item.result c.logs-test.true
+      c.logs.invariant.journals (subst (λ l. IsJournal l.header l.journal) c.log-item.is c.records-records.ensures.journal);
+  next = All-more FliesNext c.args.logs.now c.logs.log-index c.log-item.result c.logs-test.true c.logs.invariant.next
+      (subst FliesNext c.log-item.is c.records-records.ensures.flying);
 }
 
 pub returns : goal.returns

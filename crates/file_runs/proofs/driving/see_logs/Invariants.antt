@@ -5,4 +5,7 @@ use Rattle.file_runs.specs.Ledgers.{FliesNext}
 use Rattle.file_runs.proofs.driving.see_logs.Given as goal
 
 abbrev pub invariant-logs : goal.invariant-logs
-invariant-logs g l = record { journals : All (λ l. IsJournal l.header l.journal) (take l.log-index l.logs); next : All FliesNext (take l.log-index l.logs) }
+invariant-logs g l = record {
+  journals : All (λ l. IsJournal l.header l.journal) (take l.log-index l.logs);
+  next : All FliesNext (take l.log-index l.logs);
+}

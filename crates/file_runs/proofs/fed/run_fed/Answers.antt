@@ -6,4 +6,5 @@ use Rattle.file_runs.proofs.fed.run_fed.Goals as goal
 
 pub returns-clause-looks : goal.returns-clause-looks
 returns-clause-looks g c =
-    subst (λ l. IfSaw c.take_looks-looks.result (AreLooks l.header.shape (ledger_journals l))) (sym c.take_looks-looks.ensures.same) c.take_looks-looks.ensures.looks
+    subst (λ l. IfSaw c.take_looks-looks.result (AreLooks l.header.shape (ledger_journals l))) (sym c.take_looks-looks.ensures.same)
+    c.take_looks-looks.ensures.looks

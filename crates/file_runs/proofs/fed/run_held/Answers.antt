@@ -22,5 +22,6 @@ pub invariant_of-held : goal.invariant_of-held
 invariant_of-held g c =
     run g.D.Disk g.B.Waving.before g.B.Waving.lanes c.held.inside.ledger c.held.inside.works.items c.held.inside.has_run c.in-Some.ledger
     c.held.invariant c.if-held.false (sym c.in-Some.ensures.value) c.run_wave-ledger.result c.end_ahead.new.works.items c.replace-2.new.dest
-    (subst (λ xs. IsWave g.D.Disk c.in-Some.ledger c.run_wave-ledger.result c.held.inside.works.items xs) (sym c.end_ahead.ensures) c.run_wave-ledger.ensures.wave)
+    (subst (λ xs. IsWave g.D.Disk c.in-Some.ledger c.run_wave-ledger.result c.held.inside.works.items xs) (sym c.end_ahead.ensures)
+    c.run_wave-ledger.ensures.wave)
     c.replace-2.ensures.after

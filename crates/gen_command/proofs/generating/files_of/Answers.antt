@@ -18,7 +18,8 @@ returns-clause-clients c =
     let count : c.from.result ≡ c.args.count = omega (arith, c.from.ensures) in
     let splits = c.in_ok-mint.field-0.splits in
     let joins = c.in_ok-mint.field-0.joins in
-    let one : c.push.new.self.items ≡ splits ∷ [] = c.in_ok-push.ensures.items ∙ ap (λ (l : List (List FullTx)). l ++ splits ∷ []) c.in_ok-clients.ensures.items in
+    let one : c.push.new.self.items ≡ splits ∷ [] =
+    c.in_ok-push.ensures.items ∙ ap (λ (l : List (List FullTx)). l ++ splits ∷ []) c.in_ok-clients.ensures.items in
     let two : c.push-2.new.self.items ≡ splits ∷ joins ∷ [] = c.in_ok-push-2.ensures.items ∙ ap (λ (l : List (List FullTx)). l ++ joins ∷ []) one in
     two ∙ ap (λ (w : Clients). w.splits ∷ w.joins ∷ []) c.in_ok-mint.ensures ∙ ap (files_of c.args.seed) count
 
@@ -31,7 +32,8 @@ pub returns-clause-short : goal.returns-clause-short
 returns-clause-short c =
     let splits = c.in_ok-mint.field-0.splits in
     let joins = c.in_ok-mint.field-0.joins in
-    let one : c.push.new.self.items ≡ splits ∷ [] = c.in_ok-push.ensures.items ∙ ap (λ (l : List (List FullTx)). l ++ splits ∷ []) c.in_ok-clients.ensures.items in
+    let one : c.push.new.self.items ≡ splits ∷ [] =
+    c.in_ok-push.ensures.items ∙ ap (λ (l : List (List FullTx)). l ++ splits ∷ []) c.in_ok-clients.ensures.items in
     let two : c.push-2.new.self.items ≡ splits ∷ joins ∷ [] = c.in_ok-push-2.ensures.items ∙ ap (λ (l : List (List FullTx)). l ++ joins ∷ []) one in
     let same : c.push-2.new.self.items ≡ _ = two ∙ ap (λ (w : Clients). w.splits ∷ w.joins ∷ []) c.in_ok-mint.ensures in
     subst (λ (l : List (List FullTx)). All (λ txs. All IsShort txs) l) (sym same) (both c.args.seed c.from.result)

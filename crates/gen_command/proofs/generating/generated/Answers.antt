@@ -10,11 +10,13 @@ use Rattle.gen_command.proofs.Came.{why_done, text_of}
 use Rattle.gen_command.proofs.generating.generated.Goals as goal
 
 pub returns-in-Err-clause-why : goal.returns-in-Err-clause-why
-returns-in-Err-clause-why g c = told (WhyNoWorkload c.args.shape.now c.args.seed c.args.count c.args.options.watch) c.in-Err.fault c.in-Err.ensures.why
+returns-in-Err-clause-why g c = told (WhyNoWorkload c.args.shape.now c.args.seed c.args.count c.args.options.watch) c.in-Err.fault
+    c.in-Err.ensures.why
 
 pub returns-in-Err-clause-cause : goal.returns-in-Err-clause-cause
 returns-in-Err-clause-cause g c =
-    why_done c.args.shape.now c.args.seed c.args.count c.args.options.watch (Rose (g.O.Sink.count c.args.out.now) (g.O.Sink.count c.args.out.now)) c.in-Err.fault c.in-Err.ensures.why
+    why_done c.args.shape.now c.args.seed c.args.count c.args.options.watch (Rose (g.O.Sink.count c.args.out.now) (g.O.Sink.count c.args.out.now))
+    c.in-Err.fault c.in-Err.ensures.why
 
 pub returns-in-Err-clause-silent : goal.returns-in-Err-clause-silent
 returns-in-Err-clause-silent g c = silent_same (g.O.Sink.taken c.args.out.now) c.in-Err.fault

@@ -15,7 +15,8 @@ returns-in_err-write_generated-clause-prints g c countable =
     let numbers = numbers_of c.args.ran.now ++ audit_text c.args.totals.now in
     let rest = cut_text c.args.cut in
     let p = err_from_is_err_and c.from_residual.result c.from_residual.ensures.1 in
-    rw p.1 (part_cut old old new (numbers ++ rest) numbers rest (goes_begin old (numbers ++ rest)) (c.in_err-write_generated.ensures.prints countable))
+    rw p.1 (part_cut old old new (numbers ++ rest) numbers rest (goes_begin old (numbers ++ rest))
+    (c.in_err-write_generated.ensures.prints countable))
 
 pub returns-clause-prints : goal.returns-clause-prints
 returns-clause-prints g c countable =
@@ -24,4 +25,6 @@ returns-clause-prints g c countable =
     let new = g.O.Sink.taken c.write_cut.new.out in
     let numbers = numbers_of c.args.ran.now ++ audit_text c.args.totals.now in
     let rest = cut_text c.args.cut in
-    last_part old mid new (numbers ++ rest) rest c.write_cut.result (part_more old old mid (numbers ++ rest) numbers rest (goes_begin old (numbers ++ rest)) (c.in_ok-write_generated.ensures.prints countable)) c.write_cut.ensures.prints
+    last_part old mid new (numbers ++ rest) rest c.write_cut.result
+    (part_more old old mid (numbers ++ rest) numbers rest (goes_begin old (numbers ++ rest)) (c.in_ok-write_generated.ensures.prints countable))
+    c.write_cut.ensures.prints

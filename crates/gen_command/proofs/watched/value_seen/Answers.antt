@@ -6,7 +6,8 @@ use Rattle.gen_command.proofs.watched.value_seen.Goals as goal
 
 pub verdict_on-requires-clause-some : goal.verdict_on-requires-clause-some
 verdict_on-requires-clause-some g c κs k =
-    let looks = first_so c.args.waves.now c.in-Some.lists.now (λ lists. (X : ℕ → List Record) × AreLooks c.args.shape.now X lists) c.in-Some.ensures c.requires.looks in
+    let looks = first_so c.args.waves.now c.in-Some.lists.now (λ lists. (X : ℕ → List Record) × AreLooks c.args.shape.now X lists) c.in-Some.ensures
+    c.requires.looks in
     let many = looks.1.many in
     let limits = c.requires.limits in
     let one = limits.some_coordinator in
@@ -14,7 +15,8 @@ verdict_on-requires-clause-some g c κs k =
 
 pub verdict_on-requires-clause-few : goal.verdict_on-requires-clause-few
 verdict_on-requires-clause-few g c κs k =
-    let looks = first_so c.args.waves.now c.in-Some.lists.now (λ lists. (X : ℕ → List Record) × AreLooks c.args.shape.now X lists) c.in-Some.ensures c.requires.looks in
+    let looks = first_so c.args.waves.now c.in-Some.lists.now (λ lists. (X : ℕ → List Record) × AreLooks c.args.shape.now X lists) c.in-Some.ensures
+    c.requires.looks in
     let many = looks.1.many in
     let limits = c.requires.limits in
     let coordinators = limits.coordinators in
@@ -23,5 +25,6 @@ verdict_on-requires-clause-few g c κs k =
 
 pub verdict_on-requires-clause-full : goal.verdict_on-requires-clause-full
 verdict_on-requires-clause-full g c κs k n inside =
-    let looks = first_so c.args.waves.now c.in-Some.lists.now (λ lists. (X : ℕ → List Record) × AreLooks c.args.shape.now X lists) c.in-Some.ensures c.requires.looks in
+    let looks = first_so c.args.waves.now c.in-Some.lists.now (λ lists. (X : ℕ → List Record) × AreLooks c.args.shape.now X lists) c.in-Some.ensures
+    c.requires.looks in
     lists_some c.args.shape.now looks.0 c.in-Some.lists.now looks.1 n inside

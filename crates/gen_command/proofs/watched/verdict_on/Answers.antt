@@ -22,7 +22,8 @@ cut-requires-clause-few g c =
 pub cut-requires-clause-full : goal.cut-requires-clause-full
 cut-requires-clause-full g c n inside =
     let same = ap read c.deref.ensures.value ∙ c.in_ok-all.ensures in
-    subst (λ ls. 0 < length (journal_in ls n)) (sym same) (c.requires.full n (subst (λ m. n < m) (as_many c.deref.result.now c.args.lists.now same) inside))
+    subst (λ ls. 0 < length (journal_in ls n)) (sym same)
+    (c.requires.full n (subst (λ m. n < m) (as_many c.deref.result.now c.args.lists.now same) inside))
 
 pub audit_part-requires-clause-places : goal.audit_part-requires-clause-places
 audit_part-requires-clause-places g c κs k =
@@ -39,7 +40,8 @@ returns g c =
     let same = ap read c.deref.ensures.value ∙ c.in_ok-all.ensures in
     let listed : IfOk c.audit_part.result (IsPartVerdict K mint handed (rows_at (read c.deref.result.now) c.in_ok-history.field-0.history)) =
     subst (λ (l : List Place). IfOk c.audit_part.result (IsPartVerdict K mint handed (rows_at (read c.deref.result.now) l))) c.as_slice.ensures
-    (subst (λ s. IfOk c.audit_part.result (IsPartVerdict K mint handed (rows_at (read s) c.as_slice.result.now))) (sym slices) c.audit_part.ensures) in
+    (subst (λ s. IfOk c.audit_part.result (IsPartVerdict K mint handed (rows_at (read s) c.as_slice.result.now))) (sym slices) c.audit_part.ensures)
+    in
     subst (λ ls. IfOk c.audit_part.result (IsCutVerdict K mint handed ls)) same
     (verdict_so K mint handed (read c.deref.result.now) c.in_ok-history.field-0.stamp c.in_ok-history.field-0.history c.audit_part.result
     c.in_ok-history.ensures.stamp c.in_ok-history.ensures.lists c.in_ok-history.ensures.moment listed)

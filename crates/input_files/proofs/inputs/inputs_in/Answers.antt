@@ -18,7 +18,8 @@ returns-in-Err-verdicts_of-clause-fault g c =
     inr (
       c.in-Ok.files.items,
       c.in-Ok.ensures.read,
-      had_fault c.args.verdicts.now.place (g.I.Inbox.file c.args.inbox.now name) (g.I.Inbox.count c.args.inbox.now name) (g.I.Inbox.count c.all_clients_in.new.inbox name) (g.I.Inbox.count c.bytes_of-had.new.inbox name)
+      had_fault c.args.verdicts.now.place (g.I.Inbox.file c.args.inbox.now name) (g.I.Inbox.count c.args.inbox.now name)
+          (g.I.Inbox.count c.all_clients_in.new.inbox name) (g.I.Inbox.count c.bytes_of-had.new.inbox name)
           c.bytes_of-had.result c.in-Err-verdicts_of.fault (c.in-Ok.ensures.later name)
           (subst (λ t. IsHad t c.bytes_of-had.result) (c.in-Ok.ensures.same name) c.bytes_of-had.ensures.bytes) c.bytes_of-had.ensures.fault
           c.in-Err-verdicts_of.ensures.fault,

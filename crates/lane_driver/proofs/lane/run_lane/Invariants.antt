@@ -9,7 +9,9 @@ use Rattle.lane_driver.proofs.lane.run_lane.Given as goal
 
 abbrev pub invariant-pieces : goal.invariant-pieces
 invariant-pieces g l = record {
-  done : AreDone l.shape g.L.LogPort.alone l.lane (g.X.Source.all l.fn.source) (g.L.LogPort.sights l.initial.ports.log (g.L.LogPort.at l.initial.ports.log)) (g.S.PortSet.sights l.initial.ports.shards) (reverse l.batches.items) (g.X.Source.rest l.source)
+  done : AreDone l.shape g.L.LogPort.alone l.lane (g.X.Source.all l.fn.source)
+      (g.L.LogPort.sights l.initial.ports.log (g.L.LogPort.at l.initial.ports.log)) (g.S.PortSet.sights l.initial.ports.shards)
+      (reverse l.batches.items) (g.X.Source.rest l.source)
       (g.L.LogPort.sights l.ports.log (g.L.LogPort.at l.ports.log)) (g.S.PortSet.sights l.ports.shards);
   idle : g.L.LogPort.phase l.ports.log l.lane ≡ Idle;
   keeps : KeepsLanePorts g.L.LogPort g.S.PortSet l.lane l.initial.ports l.ports;

@@ -7,10 +7,13 @@ use Rattle.lane_driver.proofs.Keeping.{shards_same, shards_on}
 use Rattle.lane_driver.proofs.phase.forget_again.Goals as goal
 
 pub returns-clause-told : goal.returns-clause-told
-returns-clause-told g c = asked_all (ForgetAnswer g.S.PortSet.alone) c.args.calls.now c.loop-time._time c.args.repeats (g.S.PortSet.sights c.args.shards.now) (g.S.PortSet.sights c.loop-time.shards) c.loop-time.auto._time-end c.loop-time-test.false c.loop-time.invariant.told
+returns-clause-told g c = asked_all (ForgetAnswer g.S.PortSet.alone) c.args.calls.now c.loop-time._time c.args.repeats
+    (g.S.PortSet.sights c.args.shards.now) (g.S.PortSet.sights c.loop-time.shards) c.loop-time.auto._time-end c.loop-time-test.false
+    c.loop-time.invariant.told
 
 pub forget-requires-clause-calls : goal.forget-requires-clause-calls
-forget-requires-clause-calls g c = calls_kept IsForgetCall (g.S.PortSet.sights c.args.shards.now) (g.S.PortSet.sights c.loop-time.shards) c.loop-time.invariant.keeps.nodes c.args.calls.now c.requires.calls
+forget-requires-clause-calls g c = calls_kept IsForgetCall (g.S.PortSet.sights c.args.shards.now) (g.S.PortSet.sights c.loop-time.shards)
+    c.loop-time.invariant.keeps.nodes c.args.calls.now c.requires.calls
 
 pub forget-requires-clause-mine : goal.forget-requires-clause-mine
 forget-requires-clause-mine g c = λ i d inside. c.loop-time.invariant.keeps.served _ (c.requires.mine i d inside)

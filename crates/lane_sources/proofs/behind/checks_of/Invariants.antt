@@ -10,5 +10,6 @@ abbrev pub invariant-places : goal.invariant-places
 invariant-places g l = record {
   count : length l.checked.items ≡ l.place;
   room : vec_capacity l.checked ≡ vec_capacity l.fn.checked;
-  said : (j : ℕ) (t : FullTx) (c : Checked) → slice_get g.F.Deals.file j ≡ Some t → slice_get l.checked.items j ≡ Some c → (c.id ≡ tx_id t) × IsSaid g.F.Deals.shape g.F.Deals.verdicts g.F.Deals.file j t c.judgement;
+  said : (j : ℕ) (t : FullTx) (c : Checked) → slice_get g.F.Deals.file j ≡ Some t → slice_get l.checked.items j ≡ Some c
+      → (c.id ≡ tx_id t) × IsSaid g.F.Deals.shape g.F.Deals.verdicts g.F.Deals.file j t c.judgement;
 }

@@ -35,7 +35,8 @@ deal_home-own-requires-clause-waiting g c =
     let many = snoc_many c.loop-own.homes.items c.pop.new.self.items c.in-Some.own c.in-Some.ensures.items in
     let row = next_row c.len-home.result (length c.loop-own.homes.items) c.args.shape.now.lanes (omega (arith, many, at)) in
     let full = m.0 in
-    let all : length c.loop-own.homes.items * c.args.shape.now.lanes ≡ c.len-home.result * c.args.shape.now.lanes + length c.in-Some.own.items = omega (arith, row, full) in
+    let all : length c.loop-own.homes.items * c.args.shape.now.lanes ≡ c.len-home.result * c.args.shape.now.lanes + length c.in-Some.own.items =
+    omega (arith, row, full) in
     subst (λ n. AreLanesWaiting g.S.Shard.sight c.args.shard_locks.now n c.loop-own.table) all c.loop-own.invariant.waiting
 
 pub loop-own-init : goal.loop-own-init
@@ -82,7 +83,8 @@ loop-own-preserved g c =
       homes = both.0;
       homes_room = c.pop.ensures.capacity ∙ inv.homes_room;
       place = let p = inv.place in let k = c.push_reserved.ensures.capacity in omega (arith, p, k);
-      emptied = All-same (IsEmptyRoom K.lanes) c.push_reserved.new.self.items _ c.push_reserved.ensures.items (All-push (IsEmptyRoom K.lanes) c.loop-own.emptied.items c.deal_home-own.result.0 inv.emptied (e.empty.0, omega (arith, a, b, cap, full)));
+      emptied = All-same (IsEmptyRoom K.lanes) c.push_reserved.new.self.items _ c.push_reserved.ensures.items
+          (All-push (IsEmptyRoom K.lanes) c.loop-own.emptied.items c.deal_home-own.result.0 inv.emptied (e.empty.0, omega (arith, a, b, cap, full)));
       waiting = subst (λ n. AreLanesWaiting sight hs (n * K.lanes) u) at e.waiting;
       dealt = subst (λ n. HaveSeats sight g.B.Locks.tables K gs hs (n * K.lanes) c.args.table.lanes.items u) at (e.dealt c.args.table.lanes.items
           (subst (λ n. HaveSeats sight g.B.Locks.tables K gs hs n c.args.table.lanes.items c.loop-own.table) all inv.dealt));
@@ -106,7 +108,8 @@ pub returns-clause-dealt : goal.returns-clause-dealt
 returns-clause-dealt g c =
     let none = nothing_left c.loop-own.homes c.in_default.ensures.cases.0 in
     let all = ap (λ (xs : List _). length xs * c.args.shape.now.lanes) none ∙ zero_row c.args.shape.now.lanes in
-    subst (λ n. HaveSeats g.S.Shard.sight g.B.Locks.tables c.args.shape.now c.args.log_locks.now c.args.shard_locks.now n c.args.table.lanes.items c.loop-own.table) all c.loop-own.invariant.dealt
+    subst (λ n. HaveSeats g.S.Shard.sight g.B.Locks.tables c.args.shape.now c.args.log_locks.now c.args.shard_locks.now n c.args.table.lanes.items
+    c.loop-own.table) all c.loop-own.invariant.dealt
 
 pub deal_home-own-requires-clause-open : goal.deal_home-own-requires-clause-open
 deal_home-own-requires-clause-open g c = c.requires.open

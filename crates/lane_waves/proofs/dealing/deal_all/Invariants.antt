@@ -12,7 +12,8 @@ invariant-loop-own g l = record {
   place : l.shape.coordinators ≤ vec_capacity l.emptied;
   emptied : All (IsEmptyRoom l.shape.lanes) l.emptied.items;
   waiting : AreLanesWaiting g.S.Shard.sight l.shard_locks (length l.homes.items * l.shape.lanes) l.table;
-  dealt : HaveSeats g.S.Shard.sight g.B.Locks.tables l.shape l.log_locks l.shard_locks (length l.homes.items * l.shape.lanes) l.fn.table.lanes.items l.table;
+  dealt : HaveSeats g.S.Shard.sight g.B.Locks.tables l.shape l.log_locks l.shard_locks (length l.homes.items * l.shape.lanes) l.fn.table.lanes.items
+      l.table;
   numbered : AreRunsNumbered l.shape.coordinators l.table.runs.items;
 }
 

@@ -17,8 +17,10 @@ invariant_of-port g c =
     let gs = c.args.log_locks.now in
     let guarded = c.index-log_locks-home.result in
     let there : slice_get gs c.args.home ≡ Some guarded = slice_get_read gs _ c.args.home guarded refl c.requires.home c.index-log_locks-home.is in
-    let k = (home_last c.args.shape.now c.args.home gs c.loop-seat.own.items c.pop.new.self.items c.in-Some.seat c.loop-seat.invariant.own c.in-Some.ensures.items guarded there).1 in
-    let open_at : IsOpenNodeAt c.args.shape.now c.args.home (log_sight (opening_of guarded)) = all_here (λ n x. IsOpenNodeAt c.args.shape.now n (log_sight (opening_of x))) gs c.args.home guarded c.requires.open.logs there in
+    let k = (home_last c.args.shape.now c.args.home gs c.loop-seat.own.items c.pop.new.self.items c.in-Some.seat c.loop-seat.invariant.own
+    c.in-Some.ensures.items guarded there).1 in
+    let open_at : IsOpenNodeAt c.args.shape.now c.args.home (log_sight (opening_of guarded)) =
+    all_here (λ n x. IsOpenNodeAt c.args.shape.now n (log_sight (opening_of x))) gs c.args.home guarded c.requires.open.logs there in
     record {
       own = (k.0, k.1);
       since = subst (λ n. (log_sight (opening_of guarded)).opened ≤ n) (sym (ap (λ (h : Hand). h.faults) k.2)) open_at.since;
@@ -40,7 +42,8 @@ deal_lane-table-requires-clause-waiting g c =
     let gs = c.args.log_locks.now in
     let guarded = c.index-log_locks-home.result in
     let there : slice_get gs c.args.home ≡ Some guarded = slice_get_read gs _ c.args.home guarded refl c.requires.home c.index-log_locks-home.is in
-    let k = (home_last c.args.shape.now c.args.home gs c.loop-seat.own.items c.pop.new.self.items c.in-Some.seat c.loop-seat.invariant.own c.in-Some.ensures.items guarded there).1 in
+    let k = (home_last c.args.shape.now c.args.home gs c.loop-seat.own.items c.pop.new.self.items c.in-Some.seat c.loop-seat.invariant.own
+    c.in-Some.ensures.items guarded there).1 in
     let lane : (knows c.in-Some.seat).lane ≡ c.args.home * c.args.shape.now.lanes + length c.pop.new.self.items = ap (λ (h : Hand). h.lane) k.2 in
     let many = snoc_many c.loop-seat.own.items c.pop.new.self.items c.in-Some.seat c.in-Some.ensures.items in
     let all : c.args.home * c.args.shape.now.lanes + length c.loop-seat.own.items ≡ suc (knows c.in-Some.seat).lane = omega (arith, lane, many) in
@@ -68,7 +71,8 @@ loop-seat-preserved g c =
     let next = e.next in
     let u = c.deal_lane-table.result in
     let may = (All-pop MayRun c.loop-seat.table.lanes.items u.lanes.items (Some next.run.work) next.lanes inv.waiting.room.lanes).1 in
-    let up = set_up sight tables K gs hs c.requires.open c.args.home (length rest) guarded _ next.run next.seats low there refl refl k.2 (next.lane ∙ lane) next.log
+    let up = set_up sight tables K gs hs c.requires.open c.args.home (length rest) guarded _ next.run next.seats low there refl refl k.2
+    (next.lane ∙ lane) next.log
     (subst (λ l. AreDealt (shard_sight sight) l hs next.seats) lane next.dealt) next.ports may in
     record {
       many = omega (arith, low);
@@ -93,4 +97,5 @@ returns-clause-dealt g c =
     let none = nothing_left c.loop-seat.own c.in_default.ensures.cases.0 in
     let z = ap (λ (xs : List _). length xs) none in
     let all : c.args.home * c.args.shape.now.lanes + length c.loop-seat.own.items ≡ c.args.home * c.args.shape.now.lanes = omega (arith, z) in
-    λ lanes d. subst (λ n. HaveSeats g.S.Shard.sight g.B.Locks.tables c.args.shape.now c.args.log_locks.now c.args.shard_locks.now n lanes c.loop-seat.table) all (c.loop-seat.invariant.dealt lanes d)
+    λ lanes d. subst (λ n. HaveSeats g.S.Shard.sight g.B.Locks.tables c.args.shape.now c.args.log_locks.now c.args.shard_locks.now n lanes
+    c.loop-seat.table) all (c.loop-seat.invariant.dealt lanes d)

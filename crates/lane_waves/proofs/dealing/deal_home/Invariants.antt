@@ -10,7 +10,8 @@ invariant-loop-seat g l = record {
   own : IsHomeLeft l.shape l.home l.log_locks l.own.items;
   capacity : vec_capacity l.own ≡ vec_capacity l.fn.own;
   waiting : AreLanesWaiting g.S.Shard.sight l.shard_locks (l.home * l.shape.lanes + length l.own.items) l.table;
-  dealt : (lanes : List LaneOf) → HaveSeats g.S.Shard.sight g.B.Locks.tables l.shape l.log_locks l.shard_locks (l.home * l.shape.lanes + length l.fn.own.items) lanes l.fn.table
+  dealt : (lanes : List LaneOf) → HaveSeats g.S.Shard.sight g.B.Locks.tables l.shape l.log_locks l.shard_locks
+      (l.home * l.shape.lanes + length l.fn.own.items) lanes l.fn.table
       → HaveSeats g.S.Shard.sight g.B.Locks.tables l.shape l.log_locks l.shard_locks (l.home * l.shape.lanes + length l.own.items) lanes l.table;
   numbered : AreRunsNumbered l.shape.coordinators l.fn.table.runs.items → AreRunsNumbered l.shape.coordinators l.table.runs.items;
 }

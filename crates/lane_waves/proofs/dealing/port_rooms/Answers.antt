@@ -10,7 +10,8 @@ pub loop-place-preserved : goal.loop-place-preserved
 loop-place-preserved g c =
     let inv = c.loop-place.invariant in
     record {
-      rooms = All-same (IsEmptyRoom c.args.shards) c.push_reserved.new.self.items _ c.push_reserved.ensures.items (All-push (IsEmptyRoom c.args.shards) c.loop-place.rooms.items _ inv.rooms (search rules, search rules));
+      rooms = All-same (IsEmptyRoom c.args.shards) c.push_reserved.new.self.items _ c.push_reserved.ensures.items
+          (All-push (IsEmptyRoom c.args.shards) c.loop-place.rooms.items _ inv.rooms (search rules, search rules));
       len = search (rules, inv);
       capacity = search (rules, inv);
     }

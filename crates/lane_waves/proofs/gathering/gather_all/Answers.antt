@@ -30,7 +30,8 @@ gather_home-own-requires-clause-some g c =
 pub gather_home-own-requires-clause-own :
     goal.gather_home-own-requires-clause-own
 gather_home-own-requires-clause-own g c =
-    (All-pop (IsEmptyRoom c.args.count) c.loop-own.emptied.items c.pop.new.self.items (Some c.in-Some.own) c.in-Some.ensures.items c.loop-own.invariant.emptied).1
+    (All-pop (IsEmptyRoom c.args.count) c.loop-own.emptied.items c.pop.new.self.items (Some c.in-Some.own) c.in-Some.ensures.items
+    c.loop-own.invariant.emptied).1
 
 pub loop-own-preserved : goal.loop-own-preserved
 loop-own-preserved g c =
@@ -39,17 +40,20 @@ loop-own-preserved g c =
     let r = inv.runs in
     let many = snoc_many c.loop-own.emptied.items c.pop.new.self.items c.in-Some.own c.in-Some.ensures.items in
     let row = next_row (length c.pop.new.self.items) (length c.loop-own.emptied.items) c.args.count many in
-    let runs : length c.loop-own.table.runs.items ≡ length c.gather_home-own.result.1.runs.items + length e.home.gone = ap (λ (xs : List _). length xs) e.home.runs ∙ append_many c.gather_home-own.result.1.runs.items e.home.gone in
+    let runs : length c.loop-own.table.runs.items ≡ length c.gather_home-own.result.1.runs.items + length e.home.gone =
+    ap (λ (xs : List _). length xs) e.home.runs ∙ append_many c.gather_home-own.result.1.runs.items e.home.gone in
     let gone = e.home.many in
     let more = pushed_many c.push_reserved.new.self c.loop-own.homes c.push_reserved.ensures.len in
     record {
       runs = omega (arith, r, row, runs, gone);
-      emptied = (All-pop (IsEmptyRoom c.args.count) c.loop-own.emptied.items c.pop.new.self.items (Some c.in-Some.own) c.in-Some.ensures.items inv.emptied).0;
+      emptied = (All-pop (IsEmptyRoom c.args.count) c.loop-own.emptied.items c.pop.new.self.items (Some c.in-Some.own) c.in-Some.ensures.items
+          inv.emptied).0;
       many = let m = inv.many in omega (arith, m, many, more);
       place = let p = inv.place in let k = c.push_reserved.ensures.capacity in omega (arith, p, k, many, more);
       room = e.room;
       rooms = e.rooms ∙ inv.rooms;
-      homes = homes_more c.args.count c.args.table c.loop-own.homes.items c.push_reserved.new.self.items c.gather_home-own.result.0 c.loop-own.table c.gather_home-own.result.1 inv.homes e.home c.push_reserved.ensures.items;
+      homes = homes_more c.args.count c.args.table c.loop-own.homes.items c.push_reserved.new.self.items c.gather_home-own.result.0 c.loop-own.table
+          c.gather_home-own.result.1 inv.homes e.home c.push_reserved.ensures.items;
       gathered = λ locks all k. e.gathered locks all (inv.gathered locks all k);
     }
 
@@ -68,7 +72,9 @@ returns-clause-many g c =
 pub returns-clause-homes : goal.returns-clause-homes
 returns-clause-homes g c =
     let none = nothing_left c.loop-own.emptied c.in_default.ensures.cases.0 in
-    homes_all c.args.count c.args.table c.loop-own.homes.items c.loop-own.table c.loop-own.invariant.homes (none_long c.loop-own.table.runs.items (c.loop-own.invariant.runs ∙ ap (λ (xs : List _). length xs * c.args.count) none ∙ zero_row c.args.count))
+    homes_all c.args.count c.args.table c.loop-own.homes.items c.loop-own.table c.loop-own.invariant.homes
+    (none_long c.loop-own.table.runs.items (c.loop-own.invariant.runs ∙ ap (λ (xs : List _). length xs * c.args.count) none
+    ∙ zero_row c.args.count))
 
 pub returns-clause-room : goal.returns-clause-room
 returns-clause-room g c = c.loop-own.invariant.room

@@ -26,8 +26,10 @@ loop-place-preserved g c =
       capacity = c.push_reserved.ensures.capacity ∙ inv.capacity;
       room = e.room;
       rooms = e.rooms ∙ inv.rooms;
-      home = home_more c.loop-place._place c.args.table c.loop-place.own.items c.push_reserved.new.self.items c.loop-place.table c.gather_lane-seat.result.1 c.gather_lane-seat.result.0 inv.home e.back c.push_reserved.ensures.items;
-      gathered = λ locks all k. gathered_more locks all c.loop-place.table c.gather_lane-seat.result.0 c.gather_lane-seat.result.1 e.back (inv.gathered locks all k);
+      home = home_more c.loop-place._place c.args.table c.loop-place.own.items c.push_reserved.new.self.items c.loop-place.table
+          c.gather_lane-seat.result.1 c.gather_lane-seat.result.0 inv.home e.back c.push_reserved.ensures.items;
+      gathered = λ locks all k. gathered_more locks all c.loop-place.table c.gather_lane-seat.result.0 c.gather_lane-seat.result.1 e.back
+          (inv.gathered locks all k);
     }
 
 pub returns-clause-room : goal.returns-clause-room
@@ -37,7 +39,8 @@ pub returns-clause-rooms : goal.returns-clause-rooms
 returns-clause-rooms g c = c.loop-place.invariant.rooms
 
 pub returns-clause-home : goal.returns-clause-home
-returns-clause-home g c = let e : c.loop-place._place ≡ c.args.count = omega arith in subst (λ n. AreHome n c.args.table c.loop-place.own.items c.loop-place.table) e c.loop-place.invariant.home
+returns-clause-home g c = let e : c.loop-place._place ≡ c.args.count = omega arith in
+    subst (λ n. AreHome n c.args.table c.loop-place.own.items c.loop-place.table) e c.loop-place.invariant.home
 
 pub returns-clause-gathered : goal.returns-clause-gathered
 returns-clause-gathered g c = c.loop-place.invariant.gathered

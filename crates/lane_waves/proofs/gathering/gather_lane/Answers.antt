@@ -10,19 +10,22 @@ pub unreachable-requires-in_default-came :
     goal.unreachable-requires-in_default-came
 unreachable-requires-in_default-came g c =
     let t = c.args.table in
-    let over = over_last (length t.rows.items) c.pop.new.self.items c.in-Some.run' (subst (AllOver (length t.rows.items)) c.in-Some.ensures.items c.requires.room.over) in
+    let over = over_last (length t.rows.items) c.pop.new.self.items c.in-Some.run'
+    (subst (AllOver (length t.rows.items)) c.in-Some.ensures.items c.requires.room.over) in
     subst (MayKeep c.in-Some.run'.work) c.in_default-came.is over.1.came
 
 pub seats_back-requires-clause-room : goal.seats_back-requires-clause-room
 seats_back-requires-clause-room g c =
     let t = c.args.table in
-    let over = over_last (length t.rows.items) c.pop.new.self.items c.in-Some.run' (subst (AllOver (length t.rows.items)) c.in-Some.ensures.items c.requires.room.over) in
+    let over = over_last (length t.rows.items) c.pop.new.self.items c.in-Some.run'
+    (subst (AllOver (length t.rows.items)) c.in-Some.ensures.items c.requires.room.over) in
     let many = over.1.many in let room = c.requires.room.seats.1 in omega (arith, many, room)
 
 pub gather-rows-requires-clause-each : goal.gather-rows-requires-clause-each
 gather-rows-requires-clause-each g c =
     let t = c.args.table in
-    let over = over_last (length t.rows.items) c.pop.new.self.items c.in-Some.run' (subst (AllOver (length t.rows.items)) c.in-Some.ensures.items c.requires.room.over) in
+    let over = over_last (length t.rows.items) c.pop.new.self.items c.in-Some.run'
+    (subst (AllOver (length t.rows.items)) c.in-Some.ensures.items c.requires.room.over) in
     ap (λ (xs : List _). length xs) c.seats_back.ensures ∙ (seats_many c.in-Some.run'.ports.shards.each.ports.items ∙ over.1.many)
 
 pub gather-rows-requires-clause-free : goal.gather-rows-requires-clause-free
@@ -31,28 +34,38 @@ gather-rows-requires-clause-free g c = takes_room (length c.args.table.runs.item
 pub kept-requires-clause-ready : goal.kept-requires-clause-ready
 kept-requires-clause-ready g c =
     let t = c.args.table in
-    (over_last (length t.rows.items) c.pop.new.self.items c.in-Some.run' (subst (AllOver (length t.rows.items)) c.in-Some.ensures.items c.requires.room.over)).1.ready
+    (over_last (length t.rows.items) c.pop.new.self.items c.in-Some.run'
+    (subst (AllOver (length t.rows.items)) c.in-Some.ensures.items c.requires.room.over)).1.ready
 
 pub kept-requires-clause-room : goal.kept-requires-clause-room
 kept-requires-clause-room g c =
     let t = c.args.table in
-    let over = over_last (length t.rows.items) c.pop.new.self.items c.in-Some.run' (subst (AllOver (length t.rows.items)) c.in-Some.ensures.items c.requires.room.over) in
+    let over = over_last (length t.rows.items) c.pop.new.self.items c.in-Some.run'
+    (subst (AllOver (length t.rows.items)) c.in-Some.ensures.items c.requires.room.over) in
     subst (MayKeep c.in-Some.run'.work) c.in-Some-came.is over.1.came
 
 pub returns-clause-room : goal.returns-clause-room
 returns-clause-room g c =
     let t = c.args.table in
     let room = c.requires.room in
-    let over = over_last (length t.rows.items) c.pop.new.self.items c.in-Some.run' (subst (AllOver (length t.rows.items)) c.in-Some.ensures.items room.over) in
+    let over = over_last (length t.rows.items) c.pop.new.self.items c.in-Some.run'
+    (subst (AllOver (length t.rows.items)) c.in-Some.ensures.items room.over) in
     let runs = snoc_many t.runs.items c.pop.new.self.items c.in-Some.run' c.in-Some.ensures.items in
     let lanes = pushed_many c.push_reserved.new.self t.lanes c.push_reserved.ensures.len in
     let many = pops_many c.gather-rows.result.rows.items t.rows.items c.seats_back.result.items c.gather-rows.ensures.added in
     let a = many.0 in let b = many.1 in
     let one : length t.runs.items ≡ suc (length c.pop.new.self.items) = omega (arith, runs) in
     record {
-      rows_take = takes_left (length c.pop.new.self.items) c.gather-rows.result.rows.items t.rows.items c.seats_back.result.items c.gather-rows.ensures.added (subst (λ m. EachTakes m t.rows.items) one room.rows_take);
-      seats = (c.gather-rows.ensures.empty.1, let e = c.gather-rows.ensures.room.2 in let k = c.seats_back.result.ok in let p = k.0 in let q = k.1 in omega (arith, e, p, q, a, b));
-      spare = (c.gather-rows.ensures.empty.0, let e = c.gather-rows.ensures.room.1 in let k = t.rows.ok in let p = k.0 in let q = k.1 in omega (arith, e, p, q, a));
+      rows_take = takes_left (length c.pop.new.self.items) c.gather-rows.result.rows.items t.rows.items c.seats_back.result.items
+          c.gather-rows.ensures.added (subst (λ m. EachTakes m t.rows.items) one room.rows_take);
+      seats = (
+        c.gather-rows.ensures.empty.1,
+        let e = c.gather-rows.ensures.room.2 in let k = c.seats_back.result.ok in let p = k.0 in let q = k.1 in omega (arith, e, p, q, a, b),
+      );
+      spare = (
+        c.gather-rows.ensures.empty.0,
+        let e = c.gather-rows.ensures.room.1 in let k = t.rows.ok in let p = k.0 in let q = k.1 in omega (arith, e, p, q, a),
+      );
       lanes_take = let h = room.lanes_take in let k = c.push_reserved.ensures.capacity in omega (arith, h, k, lanes, runs);
       over = subst (λ m. AllOver m c.pop.new.self.items) (sym a) over.0;
     }

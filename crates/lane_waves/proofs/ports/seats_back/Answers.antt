@@ -5,8 +5,11 @@ use Rattle.lane_waves.proofs.ports.seats_back.Goals as goal
 
 pub loop-port-preserved : goal.loop-port-preserved
 loop-port-preserved g c =
-    let inv = c.loop-port.invariant in
-    (backs_on c.args.ports.items c.loop-port.ports.items c.pop.new.self.items c.loop-port.seats.items c.push_reserved.new.self.items c.in-Some.port inv.0 c.in-Some.ensures.items c.push_reserved.ensures.items, search (rules, inv))
+    let inv = c.loop-port.invariant in (
+      backs_on c.args.ports.items c.loop-port.ports.items c.pop.new.self.items c.loop-port.seats.items c.push_reserved.new.self.items c.in-Some.port
+          inv.0 c.in-Some.ensures.items c.push_reserved.ensures.items,
+      search (rules, inv),
+    )
 
 pub loop-port-init : goal.loop-port-init
 loop-port-init g c = (backing c.args.ports.items c.args.seats.items c.requires.empty, search rules)

@@ -13,7 +13,8 @@ loop-home-preserved c =
     subst (λ h. c.in_ok-row.field-0.items ≡ lanes_from (h * c.args.shape.now.lanes) c.args.shape.now.lanes) n
     (subst (λ m. c.in_ok-row.field-0.items ≡ lanes_from (c.loop-home.home * m) m) c.lanes-lanes.ensures.value c.in_ok-row.ensures) in
     record {
-      rows = subst (AllFrom (IsHomeRow c.args.shape.now) 0) (sym c.push_reserved.ensures.items) (all_more (IsHomeRow c.args.shape.now) 0 old.items c.in_ok-row.field-0 inv.rows row);
+      rows = subst (AllFrom (IsHomeRow c.args.shape.now) 0) (sym c.push_reserved.ensures.items)
+          (all_more (IsHomeRow c.args.shape.now) 0 old.items c.in_ok-row.field-0 inv.rows row);
       len = search (rules, inv);
       capacity = search (rules, inv);
     }

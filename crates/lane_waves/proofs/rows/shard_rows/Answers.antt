@@ -8,9 +8,11 @@ pub loop-shard-preserved : goal.loop-shard-preserved
 loop-shard-preserved c =
     let inv = c.loop-shard.invariant in
     let old = c.loop-shard.rows in
-    let row : IsShardRow c.args.shape.now (0 + length old.items) c.in_ok-row.field-0 = subst (λ m. c.in_ok-row.field-0.items ≡ lanes_from 0 m) c.lane_count-lanes.ensures.value c.in_ok-row.ensures in
+    let row : IsShardRow c.args.shape.now (0 + length old.items) c.in_ok-row.field-0 =
+    subst (λ m. c.in_ok-row.field-0.items ≡ lanes_from 0 m) c.lane_count-lanes.ensures.value c.in_ok-row.ensures in
     record {
-      rows = subst (AllFrom (IsShardRow c.args.shape.now) 0) (sym c.push_reserved.ensures.items) (all_more (IsShardRow c.args.shape.now) 0 old.items c.in_ok-row.field-0 inv.rows row);
+      rows = subst (AllFrom (IsShardRow c.args.shape.now) 0) (sym c.push_reserved.ensures.items)
+          (all_more (IsShardRow c.args.shape.now) 0 old.items c.in_ok-row.field-0 inv.rows row);
       len = search (rules, inv);
       capacity = search (rules, inv);
     }

@@ -10,16 +10,22 @@ run_lane-requires-clause-mine g c =
       c.requires.mine,
       record {
         lock = record {
-          takes = λ f cs os ps asks calls out ports d e h. let asked = asked_at (AsksLocks P.sight P.serves) cs calls.now os out.now ps ports.now d e h asks in search rules;
-          tells = λ f cs os ps os' ps' d. told_at (IsPhaseTold (Locks P.sight P.serves P.alone P.at P.faults P.holds)) d.calls.now cs d.out.now os d.ports.now ps d.after_out.now os' d.after_ports.now ps' d.calls_are d.out_is d.ports_are d.left_out d.left_ports d.called;
+          takes = λ f cs os ps asks calls out ports d e h. let asked =
+              asked_at (AsksLocks P.sight P.serves) cs calls.now os out.now ps ports.now d e h asks in search rules;
+          tells = λ f cs os ps os' ps' d. told_at (IsPhaseTold (Locks P.sight P.serves P.alone P.at P.faults P.holds)) d.calls.now cs d.out.now os
+              d.ports.now ps d.after_out.now os' d.after_ports.now ps' d.calls_are d.out_is d.ports_are d.left_out d.left_ports d.called;
         };
         finish = record {
-          takes = λ f cs os ps asks calls out ports d e h. let asked = asked_at (AsksFinishes P.sight P.serves) cs calls.now os out.now ps ports.now d e h asks in search rules;
-          tells = λ f cs os ps os' ps' d. told_at (IsPhaseTold (Finishes P.sight P.serves P.alone P.at P.faults P.holds)) d.calls.now cs d.out.now os d.ports.now ps d.after_out.now os' d.after_ports.now ps' d.calls_are d.out_is d.ports_are d.left_out d.left_ports d.called;
+          takes = λ f cs os ps asks calls out ports d e h. let asked =
+              asked_at (AsksFinishes P.sight P.serves) cs calls.now os out.now ps ports.now d e h asks in search rules;
+          tells = λ f cs os ps os' ps' d. told_at (IsPhaseTold (Finishes P.sight P.serves P.alone P.at P.faults P.holds)) d.calls.now cs d.out.now os
+              d.ports.now ps d.after_out.now os' d.after_ports.now ps' d.calls_are d.out_is d.ports_are d.left_out d.left_ports d.called;
         };
         forget = record {
-          takes = λ f cs os ps asks calls out ports d e h. let asked = asked_at (AsksForgets P.sight P.serves) cs calls.now os out.now ps ports.now d e h asks in search rules;
-          tells = λ f cs os ps os' ps' d. told_at (IsPhaseTold (Forgets P.sight P.serves P.alone P.at P.faults P.holds)) d.calls.now cs d.out.now os d.ports.now ps d.after_out.now os' d.after_ports.now ps' d.calls_are d.out_is d.ports_are d.left_out d.left_ports d.called;
+          takes = λ f cs os ps asks calls out ports d e h. let asked =
+              asked_at (AsksForgets P.sight P.serves) cs calls.now os out.now ps ports.now d e h asks in search rules;
+          tells = λ f cs os ps os' ps' d. told_at (IsPhaseTold (Forgets P.sight P.serves P.alone P.at P.faults P.holds)) d.calls.now cs d.out.now os
+              d.ports.now ps d.after_out.now os' d.after_ports.now ps' d.calls_are d.out_is d.ports_are d.left_out d.left_ports d.called;
         };
       },
     )
@@ -36,16 +42,22 @@ returns-clause-keeps g c =
         h,
         record {
           lock = record {
-            takes = λ f cs os ps asks calls out ports d e h. let asked = asked_at (AsksLocks P.sight P.serves) cs calls.now os out.now ps ports.now d e h asks in search rules;
-            tells = λ f cs os ps os' ps' d. told_at (IsPhaseTold (Locks P.sight P.serves P.alone P.at P.faults P.holds)) d.calls.now cs d.out.now os d.ports.now ps d.after_out.now os' d.after_ports.now ps' d.calls_are d.out_is d.ports_are d.left_out d.left_ports d.called;
+            takes = λ f cs os ps asks calls out ports d e h. let asked =
+                asked_at (AsksLocks P.sight P.serves) cs calls.now os out.now ps ports.now d e h asks in search rules;
+            tells = λ f cs os ps os' ps' d. told_at (IsPhaseTold (Locks P.sight P.serves P.alone P.at P.faults P.holds)) d.calls.now cs d.out.now os
+                d.ports.now ps d.after_out.now os' d.after_ports.now ps' d.calls_are d.out_is d.ports_are d.left_out d.left_ports d.called;
           };
           finish = record {
-            takes = λ f cs os ps asks calls out ports d e h. let asked = asked_at (AsksFinishes P.sight P.serves) cs calls.now os out.now ps ports.now d e h asks in search rules;
-            tells = λ f cs os ps os' ps' d. told_at (IsPhaseTold (Finishes P.sight P.serves P.alone P.at P.faults P.holds)) d.calls.now cs d.out.now os d.ports.now ps d.after_out.now os' d.after_ports.now ps' d.calls_are d.out_is d.ports_are d.left_out d.left_ports d.called;
+            takes = λ f cs os ps asks calls out ports d e h. let asked =
+                asked_at (AsksFinishes P.sight P.serves) cs calls.now os out.now ps ports.now d e h asks in search rules;
+            tells = λ f cs os ps os' ps' d. told_at (IsPhaseTold (Finishes P.sight P.serves P.alone P.at P.faults P.holds)) d.calls.now cs d.out.now
+                os d.ports.now ps d.after_out.now os' d.after_ports.now ps' d.calls_are d.out_is d.ports_are d.left_out d.left_ports d.called;
           };
           forget = record {
-            takes = λ f cs os ps asks calls out ports d e h. let asked = asked_at (AsksForgets P.sight P.serves) cs calls.now os out.now ps ports.now d e h asks in search rules;
-            tells = λ f cs os ps os' ps' d. told_at (IsPhaseTold (Forgets P.sight P.serves P.alone P.at P.faults P.holds)) d.calls.now cs d.out.now os d.ports.now ps d.after_out.now os' d.after_ports.now ps' d.calls_are d.out_is d.ports_are d.left_out d.left_ports d.called;
+            takes = λ f cs os ps asks calls out ports d e h. let asked =
+                asked_at (AsksForgets P.sight P.serves) cs calls.now os out.now ps ports.now d e h asks in search rules;
+            tells = λ f cs os ps os' ps' d. told_at (IsPhaseTold (Forgets P.sight P.serves P.alone P.at P.faults P.holds)) d.calls.now cs d.out.now
+                os d.ports.now ps d.after_out.now os' d.after_ports.now ps' d.calls_are d.out_is d.ports_are d.left_out d.left_ports d.called;
           };
         },
       )).0;

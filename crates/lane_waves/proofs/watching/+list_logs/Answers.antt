@@ -2,7 +2,8 @@ use Rattle.lane_waves.proofs.Looking.{first_looked, none_more, listed_more}
 use Rattle.lane_waves.proofs.watching.+list_logs.Goals as goal
 
 pub returns-in_default-clause-listed : goal.returns-in_default-clause-listed
-returns-in_default-clause-listed g t c = none_more c.args.locks.now c.args.seats.now c.args.lists.now.items c.in_default.ensures.cases c.requires.seats
+returns-in_default-clause-listed g t c = none_more c.args.locks.now c.args.seats.now c.args.lists.now.items c.in_default.ensures.cases
+    c.requires.seats
 
 pub returns-in_err-all-clause-kept : goal.returns-in_err-all-clause-kept
 returns-in_err-all-clause-kept g t c =
@@ -16,5 +17,6 @@ returns-in_err-push-clause-kept g t c =
 
 pub returns-clause-listed : goal.returns-clause-listed
 returns-clause-listed g t c =
-    listed_more c.list_logs.result c.args.lists.now.items c.push.new.self.items c.list_logs.new.lists.items c.in_ok-all.field-0 c.list_log-all.new.seat c.list_logs.new.seats
+    listed_more c.list_logs.result c.args.lists.now.items c.push.new.self.items c.list_logs.new.lists.items c.in_ok-all.field-0
+    c.list_log-all.new.seat c.list_logs.new.seats
     c.in_ok-push.ensures.items c.in_ok-all.ensures.listed.listed c.list_logs.ensures.listed

@@ -13,11 +13,13 @@ pub returns-in-Err-clause-shards_back : goal.returns-in-Err-clause-shards_back
 returns-in-Err-clause-shards_back g c = c.in-Err.ensures.back
 
 pub close_all-shards-requires-clause-ready : goal.close_all-shards-requires-clause-ready
-close_all-shards-requires-clause-ready g c = locked_ready (shard_sight g.S.Shard.sight) c.args.nodes.shards.items c.args.shard_rows.items c.in-Ok.locked.locks.items c.in-Ok.locked.seats.items c.in-Ok.ensures.locked
+close_all-shards-requires-clause-ready g c = locked_ready (shard_sight g.S.Shard.sight) c.args.nodes.shards.items c.args.shard_rows.items
+    c.in-Ok.locked.locks.items c.in-Ok.locked.seats.items c.in-Ok.ensures.locked
 
 pub close_all-shards-requires-clause-room : goal.close_all-shards-requires-clause-room
 close_all-shards-requires-clause-room g c =
-    let same = locks_many (shard_sight g.S.Shard.sight) c.args.nodes.shards.items c.args.shard_rows.items c.in-Ok.locked.locks.items c.in-Ok.locked.seats.items c.in-Ok.ensures.locked in
+    let same = locks_many (shard_sight g.S.Shard.sight) c.args.nodes.shards.items c.args.shard_rows.items c.in-Ok.locked.locks.items
+    c.in-Ok.locked.seats.items c.in-Ok.ensures.locked in
     let room = c.in-Ok.ensures.room.1 in
     omega (arith, same, room)
 
@@ -42,4 +44,5 @@ pub close_all-shards-requires-clause-empty : goal.close_all-shards-requires-clau
 close_all-shards-requires-clause-empty g c = c.in-Ok.ensures.room.0
 
 pub close_all-shards-requires-clause-watching : goal.close_all-shards-requires-clause-watching
-close_all-shards-requires-clause-watching g c = just_fresh (shard_sight g.S.Shard.sight) c.args.watcher c.in-Ok.locked.locks.items c.in-Ok.locked.watchers.items c.in-Ok.ensures.watchers
+close_all-shards-requires-clause-watching g c = just_fresh (shard_sight g.S.Shard.sight) c.args.watcher c.in-Ok.locked.locks.items
+    c.in-Ok.locked.watchers.items c.in-Ok.ensures.watchers

@@ -12,7 +12,8 @@ use Rattle.lane_waves.proofs.waves.run_seated.Goals as goal
 pub deal_all-homes-requires-clause-waiting :
     goal.deal_all-homes-requires-clause-waiting
 deal_all-homes-requires-clause-waiting g c =
-    lanes_wait g.S.Shard.sight c.args.shape.now c.args.shard_locks.now c.args.seated.rows c.args.seated.lanes c.in-Ok.room c.requires.open.shards_many c.requires.left c.requires.lanes c.requires.lanes_many c.in-Ok.ensures
+    lanes_wait g.S.Shard.sight c.args.shape.now c.args.shard_locks.now c.args.seated.rows c.args.seated.lanes c.in-Ok.room
+    c.requires.open.shards_many c.requires.left c.requires.lanes c.requires.lanes_many c.in-Ok.ensures
 
 pub run_table-table-requires-clause-begin :
     goal.run_table-table-requires-clause-begin
@@ -20,33 +21,40 @@ run_table-table-requires-clause-begin g c κs within =
     let lanes = c.args.seated.lanes.items in
     let t = c.deal_all-homes.result.2 in
     all_begin g.S.Shard.sight g.B.Locks.tables c.args.shape.now c.args.log_locks.now c.args.shard_locks.now lanes t.runs.items
-    (all_seated g.S.Shard.sight g.B.Locks.tables c.args.shape.now c.args.log_locks.now c.args.shard_locks.now lanes t (none_long t.lanes.items c.deal_all-homes.ensures.waiting.room.lanes_many) c.deal_all-homes.ensures.dealt)
+    (all_seated g.S.Shard.sight g.B.Locks.tables c.args.shape.now c.args.log_locks.now c.args.shard_locks.now lanes t
+    (none_long t.lanes.items c.deal_all-homes.ensures.waiting.room.lanes_many) c.deal_all-homes.ensures.dealt)
 
 pub gather_all-homes-requires-clause-runs :
     goal.gather_all-homes-requires-clause-runs
 gather_all-homes-requires-clause-runs g c =
     let K = c.args.shape.now in
     let d = c.deal_all-homes.ensures in
-    let h : HaveRun g.S.Shard.sight g.B.Locks.tables K c.args.log_locks.now c.args.shard_locks.now c.requires.open c.args.seated.lanes.items c.deal_all-homes.result.2 c.run_table-table.result =
-    have_run g.S.Shard.sight g.B.Locks.tables K c.args.log_locks.now c.args.shard_locks.now c.requires.open c.args.seated.lanes.items c.deal_all-homes.result.2 c.run_table-table.result d.waiting d.dealt c.requires.lanes_many c.run_table-table.ensures.run in
+    let h : HaveRun g.S.Shard.sight g.B.Locks.tables K c.args.log_locks.now c.args.shard_locks.now c.requires.open c.args.seated.lanes.items
+    c.deal_all-homes.result.2 c.run_table-table.result =
+    have_run g.S.Shard.sight g.B.Locks.tables K c.args.log_locks.now c.args.shard_locks.now c.requires.open c.args.seated.lanes.items
+    c.deal_all-homes.result.2 c.run_table-table.result d.waiting d.dealt c.requires.lanes_many c.run_table-table.ensures.run in
     h.many ∙ sym (ap (λ n. n * c.lanes.result) d.emptied.0 ∙ ap (λ n. K.coordinators * n) c.lanes.ensures.value)
 
 pub gather_all-homes-requires-clause-room :
     goal.gather_all-homes-requires-clause-room
 gather_all-homes-requires-clause-room g c =
     let d = c.deal_all-homes.ensures in
-    (have_run g.S.Shard.sight g.B.Locks.tables c.args.shape.now c.args.log_locks.now c.args.shard_locks.now c.requires.open c.args.seated.lanes.items c.deal_all-homes.result.2 c.run_table-table.result d.waiting d.dealt c.requires.lanes_many c.run_table-table.ensures.run).room
+    (have_run g.S.Shard.sight g.B.Locks.tables c.args.shape.now c.args.log_locks.now c.args.shard_locks.now c.requires.open c.args.seated.lanes.items
+    c.deal_all-homes.result.2 c.run_table-table.result d.waiting d.dealt c.requires.lanes_many c.run_table-table.ensures.run).room
 
 pub returns-clause-through : goal.returns-clause-through
 returns-clause-through g c =
     let K = c.args.shape.now in
     let d = c.deal_all-homes.ensures in
     let u = c.run_table-table.result in
-    let h : HaveRun g.S.Shard.sight g.B.Locks.tables K c.args.log_locks.now c.args.shard_locks.now c.requires.open c.args.seated.lanes.items c.deal_all-homes.result.2 u =
-    have_run g.S.Shard.sight g.B.Locks.tables K c.args.log_locks.now c.args.shard_locks.now c.requires.open c.args.seated.lanes.items c.deal_all-homes.result.2 u d.waiting d.dealt c.requires.lanes_many c.run_table-table.ensures.run in
+    let h : HaveRun g.S.Shard.sight g.B.Locks.tables K c.args.log_locks.now c.args.shard_locks.now c.requires.open c.args.seated.lanes.items
+    c.deal_all-homes.result.2 u =
+    have_run g.S.Shard.sight g.B.Locks.tables K c.args.log_locks.now c.args.shard_locks.now c.requires.open c.args.seated.lanes.items
+    c.deal_all-homes.result.2 u d.waiting d.dealt c.requires.lanes_many c.run_table-table.ensures.run in
     let e = c.gather_all-homes.ensures in
     let homes = c.gather_all-homes.result.0.items in
-    all_through g.S.Shard.sight g.B.Locks.tables K c.args.log_locks.now c.args.shard_locks.now c.requires.open c.args.seated.lanes.items c.deal_all-homes.result.2 u c.gather_all-homes.result.1 homes h
+    all_through g.S.Shard.sight g.B.Locks.tables K c.args.log_locks.now c.args.shard_locks.now c.requires.open c.args.seated.lanes.items
+    c.deal_all-homes.result.2 u c.gather_all-homes.result.1 homes h
     (e.gathered c.args.shard_locks.now u.runs.items h.begun) e.none (subst (λ n. Chunks n (reverse homes) u.runs.items) c.lanes.ensures.value e.homes)
     (e.many ∙ (d.emptied.0 ∙ sym c.requires.open.logs_many)) c.requires.lanes_many
 

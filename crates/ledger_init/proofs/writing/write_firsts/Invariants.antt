@@ -10,7 +10,8 @@ invariant-blanks g l = record {
   few : length l.blanks.items < 2 ^ 32;
   fewer : length l.blanks.items ≤ length l.initial.blanks.items;
   out : EachFrom (MayReturn (λ b. g.R.Disk.Disk.count b.disk) (g.R.Rack.can_put l.rack)) 0 l.blanks.items;
-  done : ListGoesOn (λ n b. IsFirstWritten g.R.Disk.Disk (first_record l.shape (minted_by l.genesis) n) b.disk (g.R.Rack.held l.rack n)) 0 l.blanks.items l.initial.blanks.items;
+  done : ListGoesOn (λ n b. IsFirstWritten g.R.Disk.Disk (first_record l.shape (minted_by l.genesis) n) b.disk (g.R.Rack.held l.rack n)) 0
+      l.blanks.items l.initial.blanks.items;
   others_held : (n : ℕ) → length l.initial.blanks.items ≤ n → g.R.Rack.held l.rack n ≡ g.R.Rack.held l.initial.rack n;
   back : (n : ℕ) → length l.blanks.items ≤ n → n < length l.initial.blanks.items → g.R.Rack.can_take l.rack n;
   others_in : (n : ℕ) → length l.initial.blanks.items ≤ n → g.R.Rack.can_take l.initial.rack n → g.R.Rack.can_take l.rack n;

@@ -28,17 +28,21 @@ end_on-requires-clause-come g c =
     let r = begun.3 in
     let idle : AreIdle c.in-Ok.begun.ledger.header.shape (ledger_journals c.in-Ok.begun.ledger) =
     subst (λ h. AreIdle h (ledger_journals c.in-Ok.begun.ledger)) (sym r.keeps_ledger.shape_same) r.idle in
-    let has : HasOpenedAndRun g.R.Disk.Disk no_deed begun.0 (g.R.Rack.held c.begin_on.new.rack) (g.R.Rack.can_put c.begin_on.new.rack) (g.R.Rack.can_take c.begin_on.new.rack) c.in-Ok.begun.ledger c.in-Ok.begun.resumed.items (Ok tt) = record {
+    let has : HasOpenedAndRun g.R.Disk.Disk no_deed begun.0 (g.R.Rack.held c.begin_on.new.rack) (g.R.Rack.can_put c.begin_on.new.rack)
+    (g.R.Rack.can_take c.begin_on.new.rack) c.in-Ok.begun.ledger c.in-Ok.begun.resumed.items (Ok tt) = record {
       begun = begun.2;
-      ran = worked_run g.R.Disk.Disk no_deed (entry_ledger begun.0) c.in-Ok.begun.ledger c.in-Ok.begun.ledger c.in-Ok.begun.resumed (Ok c.in-Ok.begun.resumed) (Ok tt) refl r
+      ran = worked_run g.R.Disk.Disk no_deed (entry_ledger begun.0) c.in-Ok.begun.ledger c.in-Ok.begun.ledger c.in-Ok.begun.resumed
+          (Ok c.in-Ok.begun.resumed) (Ok tt) refl r
           (nothing_worked g.R.Disk.Disk c.in-Ok.begun.ledger idle r.checked);
     } in
     (begun.0, has)
 
 pub returns-in-Err-clause-refused : goal.returns-in-Err-clause-refused
 returns-in-Err-clause-refused g c n is =
-    ⊎_elim (λ turns. absurd (not_empty g.R.Disk.Disk (disks_in g.R.Rack c.args.rack.now) (disks_in g.R.Rack c.begin_on.new.rack) (work_turns no_deed) n
-    (subst (λ a. WhyNoTurns g.R.Disk.Disk (disks_in g.R.Rack c.args.rack.now) (disks_in g.R.Rack c.begin_on.new.rack) (work_turns no_deed) a) is turns))) (λ refused. refused) c.in-Err.ensures.stopped
+    ⊎_elim (λ turns. absurd (not_empty g.R.Disk.Disk (disks_in g.R.Rack c.args.rack.now) (disks_in g.R.Rack c.begin_on.new.rack) (work_turns no_deed)
+    n
+    (subst (λ a. WhyNoTurns g.R.Disk.Disk (disks_in g.R.Rack c.args.rack.now) (disks_in g.R.Rack c.begin_on.new.rack) (work_turns no_deed) a) is
+    turns))) (λ refused. refused) c.in-Err.ensures.stopped
 
 pub returns-clause-refused : goal.returns-clause-refused
 returns-clause-refused g c =
@@ -46,15 +50,19 @@ returns-clause-refused g c =
     let r = begun.3 in
     let idle : AreIdle c.in-Ok.begun.ledger.header.shape (ledger_journals c.in-Ok.begun.ledger) =
     subst (λ h. AreIdle h (ledger_journals c.in-Ok.begun.ledger)) (sym r.keeps_ledger.shape_same) r.idle in
-    let has : HasOpenedAndRun g.R.Disk.Disk no_deed begun.0 (g.R.Rack.held c.begin_on.new.rack) (g.R.Rack.can_put c.begin_on.new.rack) (g.R.Rack.can_take c.begin_on.new.rack) c.in-Ok.begun.ledger c.in-Ok.begun.resumed.items (Ok tt) = record {
+    let has : HasOpenedAndRun g.R.Disk.Disk no_deed begun.0 (g.R.Rack.held c.begin_on.new.rack) (g.R.Rack.can_put c.begin_on.new.rack)
+    (g.R.Rack.can_take c.begin_on.new.rack) c.in-Ok.begun.ledger c.in-Ok.begun.resumed.items (Ok tt) = record {
       begun = begun.2;
-      ran = worked_run g.R.Disk.Disk no_deed (entry_ledger begun.0) c.in-Ok.begun.ledger c.in-Ok.begun.ledger c.in-Ok.begun.resumed (Ok c.in-Ok.begun.resumed) (Ok tt) refl r
+      ran = worked_run g.R.Disk.Disk no_deed (entry_ledger begun.0) c.in-Ok.begun.ledger c.in-Ok.begun.ledger c.in-Ok.begun.resumed
+          (Ok c.in-Ok.begun.resumed) (Ok tt) refl r
           (nothing_worked g.R.Disk.Disk c.in-Ok.begun.ledger idle r.checked);
     } in
     if_err_by (WhyNoTurns g.R.Disk.Disk begun.0.disks (disks_in g.R.Rack c.end_on.new.rack) (work_turns no_deed))
-    (λ a. (n : ℕ) → a ≡ answers.NotEmpty n → IsTestRefused g.R.Disk.Disk (g.R.Rack.held c.args.rack.now) (g.R.Rack.held c.end_on.new.rack) (few_records c.args.most) a) c.end_on.result
+    (λ a. (n : ℕ) → a ≡ answers.NotEmpty n → IsTestRefused g.R.Disk.Disk (g.R.Rack.held c.args.rack.now) (g.R.Rack.held c.end_on.new.rack)
+    (few_records c.args.most) a) c.end_on.result
     (λ a turns n is. absurd (not_empty g.R.Disk.Disk begun.0.disks (disks_in g.R.Rack c.end_on.new.rack) (work_turns no_deed) n
-    (subst (λ a. WhyNoTurns g.R.Disk.Disk begun.0.disks (disks_in g.R.Rack c.end_on.new.rack) (work_turns no_deed) a) is turns))) (c.end_on.ensures.done begun.0 has).stopped
+    (subst (λ a. WhyNoTurns g.R.Disk.Disk begun.0.disks (disks_in g.R.Rack c.end_on.new.rack) (work_turns no_deed) a) is turns)))
+    (c.end_on.ensures.done begun.0 has).stopped
 
 pub returns-clause-passed : goal.returns-clause-passed
 returns-clause-passed g c =
@@ -62,10 +70,13 @@ returns-clause-passed g c =
     let r = begun.3 in
     let idle : AreIdle c.in-Ok.begun.ledger.header.shape (ledger_journals c.in-Ok.begun.ledger) =
     subst (λ h. AreIdle h (ledger_journals c.in-Ok.begun.ledger)) (sym r.keeps_ledger.shape_same) r.idle in
-    let has : HasOpenedAndRun g.R.Disk.Disk no_deed begun.0 (g.R.Rack.held c.begin_on.new.rack) (g.R.Rack.can_put c.begin_on.new.rack) (g.R.Rack.can_take c.begin_on.new.rack) c.in-Ok.begun.ledger c.in-Ok.begun.resumed.items (Ok tt) = record {
+    let has : HasOpenedAndRun g.R.Disk.Disk no_deed begun.0 (g.R.Rack.held c.begin_on.new.rack) (g.R.Rack.can_put c.begin_on.new.rack)
+    (g.R.Rack.can_take c.begin_on.new.rack) c.in-Ok.begun.ledger c.in-Ok.begun.resumed.items (Ok tt) = record {
       begun = begun.2;
-      ran = worked_run g.R.Disk.Disk no_deed (entry_ledger begun.0) c.in-Ok.begun.ledger c.in-Ok.begun.ledger c.in-Ok.begun.resumed (Ok c.in-Ok.begun.resumed) (Ok tt) refl r
+      ran = worked_run g.R.Disk.Disk no_deed (entry_ledger begun.0) c.in-Ok.begun.ledger c.in-Ok.begun.ledger c.in-Ok.begun.resumed
+          (Ok c.in-Ok.begun.resumed) (Ok tt) refl r
           (nothing_worked g.R.Disk.Disk c.in-Ok.begun.ledger idle r.checked);
     } in
     on_ok_by c.end_on.result (λ _. subst (λ d. OfShown g.R.Disk.Disk d.held (λ K mint submissions E. length (E 0) ≤ c.args.most)) begun.1
-    (passed_shown g.R.Disk.Disk begun.0 (g.R.Rack.held c.begin_on.new.rack) (g.R.Rack.can_put c.begin_on.new.rack) (g.R.Rack.can_take c.begin_on.new.rack) begun.2 (λ K E. length (E 0) ≤ c.args.most) begun.4)) (c.end_on.ensures.done begun.0 has).caused
+    (passed_shown g.R.Disk.Disk begun.0 (g.R.Rack.held c.begin_on.new.rack) (g.R.Rack.can_put c.begin_on.new.rack)
+    (g.R.Rack.can_take c.begin_on.new.rack) begun.2 (λ K E. length (E 0) ≤ c.args.most) begun.4)) (c.end_on.ensures.done begun.0 has).caused

@@ -19,6 +19,7 @@ loop-lane-preserved g c =
       count = so.count;
       len = ap length c.push_reserved.ensures.items ∙ length-append c.loop-lane.found.items (one ∷ []) ∙ ap (λ n. n + 1) so.len;
       room = c.push_reserved.ensures.capacity ∙ so.room;
-      each = found_more (IsFound (g.L.Turns.shape c.args.ledger.now) (g.L.Turns.journals c.args.ledger.now) (g.L.Turns.opens c.args.ledger.now)) c.loop-lane.found.items c.push_reserved.new.self.items c.loop-lane.lane one
+      each = found_more (IsFound (g.L.Turns.shape c.args.ledger.now) (g.L.Turns.journals c.args.ledger.now) (g.L.Turns.opens c.args.ledger.now))
+          c.loop-lane.found.items c.push_reserved.new.self.items c.loop-lane.lane one
           so.len c.push_reserved.ensures.items so.each c.in_ok-open_lane.ensures.found;
     }

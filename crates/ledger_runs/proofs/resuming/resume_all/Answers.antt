@@ -44,11 +44,15 @@ lanes-init g c =
       grows = λ n. end_self (E n);
       order = λ n. refl;
       untouched = λ lane low n. refl;
-      first = first_begin K E (HaveFailed (g.L.Turns.opened c.args.ledger.now) (g.L.Turns.faults c.args.ledger.now)) (MayHoldBytes (g.L.Turns.capacity c.args.ledger.now));
-      rests = rests_begin K E (HaveFailed (g.L.Turns.opened c.args.ledger.now) (g.L.Turns.faults c.args.ledger.now)) (g.L.Turns.wanting c.args.ledger.now);
+      first = first_begin K E (HaveFailed (g.L.Turns.opened c.args.ledger.now) (g.L.Turns.faults c.args.ledger.now))
+          (MayHoldBytes (g.L.Turns.capacity c.args.ledger.now));
+      rests = rests_begin K E (HaveFailed (g.L.Turns.opened c.args.ledger.now) (g.L.Turns.faults c.args.ledger.now))
+          (g.L.Turns.wanting c.args.ledger.now);
       as_many = as_many;
-      found = λ k low within. subst (λ xs. IsFound K E (g.L.Turns.opens c.args.ledger.now) k (get_or xs k None)) (sym c.as_slice-found.ensures.value) (c.in-Ok-open_lanes.ensures.each k (omega (arith, within, as_many, ap length c.as_slice-found.ensures.value)));
-      plans = subst (λ k. AllZip (IsPlanOf k) c.as_slice-found.result.now (reverse c.in-Ok-plan_lanes.plans.items)) c.shape-2.ensures c.in-Ok-plan_lanes.ensures;
+      found = λ k low within. subst (λ xs. IsFound K E (g.L.Turns.opens c.args.ledger.now) k (get_or xs k None)) (sym c.as_slice-found.ensures.value)
+          (c.in-Ok-open_lanes.ensures.each k (omega (arith, within, as_many, ap length c.as_slice-found.ensures.value)));
+      plans = subst (λ k. AllZip (IsPlanOf k) c.as_slice-found.result.now (reverse c.in-Ok-plan_lanes.plans.items)) c.shape-2.ensures
+          c.in-Ok-plan_lanes.ensures;
       len = omega (arith, c.in-Ok.ensures.len);
       room = c.in-Ok.ensures.exact;
     }
@@ -68,7 +72,8 @@ lanes-preserved g c =
     let skip : ResumingSkipLaw = resuming_skip_law in
     let inside : IsLaneOf K turn = omega (arith, c.lanes-test.true, so.count) in
     let is : c.or-first.result ≡ option_or c.lanes.first (result_err came) = c.or-first.ensures ∙ ap (option_or c.lanes.first) c.err.ensures.value in
-    let failed_on = risen_later (g.L.Turns.opened c.lanes.ledger) (g.L.Turns.faults c.lanes.ledger) (g.L.Turns.opened c.resume_next-came.new.ledger) (g.L.Turns.faults c.resume_next-came.new.ledger) did.keeps_ledger.opened_same did.keeps_ledger.later in
+    let failed_on = risen_later (g.L.Turns.opened c.lanes.ledger) (g.L.Turns.faults c.lanes.ledger) (g.L.Turns.opened c.resume_next-came.new.ledger)
+    (g.L.Turns.faults c.resume_next-came.new.ledger) did.keeps_ledger.opened_same did.keeps_ledger.later in
     let held_on = holds_later (g.L.Turns.capacity c.lanes.ledger) (g.L.Turns.capacity c.resume_next-came.new.ledger) did.keeps_ledger.capacity_same in
     let failed = HaveFailed (g.L.Turns.opened c.lanes.ledger) (g.L.Turns.faults c.lanes.ledger) in
     let fails = HaveFailed (g.L.Turns.opened c.resume_next-came.new.ledger) (g.L.Turns.faults c.resume_next-came.new.ledger) in
@@ -78,24 +83,34 @@ lanes-preserved g c =
     record {
       keeps_ledger = ledger_on so.keeps_ledger did.keeps_ledger;
       count = so.count;
-      idle = λ none. idle_next K H turn J L so.keeps_ledger.shape_same inside (so.idle (none_of none).0) did.others (of_ok came _ (none_of none).1 did.idle);
+      idle = λ none. idle_next K H turn J L so.keeps_ledger.shape_same inside (so.idle (none_of none).0) did.others
+          (of_ok came _ (none_of none).1 did.idle);
       keeps = stays_next K H E J L so.keeps_ledger.shape_same so.keeps did.keeps;
-      so = λ none. so_next step skip K H turn E J L c.lanes.batches.items c.resume_next-came.new.batches.items so.keeps_ledger.shape_same so.keeps (so.so (none_of none).0) (of_ok came _ (none_of none).1 did.took);
-      told = λ none. resumed_told K H turn E J L c.lanes.batches.items c.resume_next-came.new.batches.items so.keeps_ledger.shape_same so.keeps (so.so (none_of none).0) (so.told (none_of none).0) (of_ok came _ (none_of none).1 did.told);
+      so = λ none. so_next step skip K H turn E J L c.lanes.batches.items c.resume_next-came.new.batches.items so.keeps_ledger.shape_same so.keeps
+          (so.so (none_of none).0) (of_ok came _ (none_of none).1 did.took);
+      told = λ none. resumed_told K H turn E J L c.lanes.batches.items c.resume_next-came.new.batches.items so.keeps_ledger.shape_same so.keeps
+          (so.so (none_of none).0) (so.told (none_of none).0) (of_ok came _ (none_of none).1 did.told);
       prepares = resumed_none K H turn E J L so.keeps_ledger.shape_same so.prepares did.grows did.unprepared;
       quiet = λ none was. of_ok came _ (none_of none).1 did.quiet (so.quiet (none_of none).0 was);
-      flies = flies_next K H E J L (g.L.Turns.flights c.args.ledger.now) (g.L.Turns.flights c.lanes.ledger) (g.L.Turns.flights c.resume_next-came.new.ledger) so.keeps_ledger.shape_same so.keeps so.flies did.flies;
-      launches = launches_next K H E J L (g.L.Turns.flights c.args.ledger.now) (g.L.Turns.flights c.lanes.ledger) (g.L.Turns.flights c.resume_next-came.new.ledger) so.keeps_ledger.shape_same so.launches did.launches;
+      flies = flies_next K H E J L (g.L.Turns.flights c.args.ledger.now) (g.L.Turns.flights c.lanes.ledger)
+          (g.L.Turns.flights c.resume_next-came.new.ledger) so.keeps_ledger.shape_same so.keeps so.flies did.flies;
+      launches = launches_next K H E J L (g.L.Turns.flights c.args.ledger.now) (g.L.Turns.flights c.lanes.ledger)
+          (g.L.Turns.flights c.resume_next-came.new.ledger) so.keeps_ledger.shape_same so.launches did.launches;
       checked = did.checked;
       grows = λ n. end_trans (E n) (J n) (L n) (so.grows n) (grown_end turn J L did.grows n);
       order = one_more turn E J L so.order did.grows;
-      untouched = λ lane low. untouched_on lane turn (let apart : turn ≢ lane = λ h. omega (arith, h, low) in apart) E J L did.grows (so.untouched lane (omega (arith, low)));
-      first = λ e some. first_next K H turn E J L failed fails holds held so.keeps_ledger.shape_same inside so.grows did.grows failed_on held_on (so.untouched turn (omega arith)) came did.fault did.others c.lanes.first so.idle so.first e (sym is ∙ some);
-      rests = rests_next K H turn E J L failed fails holds held so.keeps_ledger.shape_same inside so.grows did.grows failed_on held_on (so.untouched turn (omega arith)) came did.fault
+      untouched = λ lane low. untouched_on lane turn (let apart : turn ≢ lane = λ h. omega (arith, h, low) in apart) E J L did.grows
+          (so.untouched lane (omega (arith, low)));
+      first = λ e some. first_next K H turn E J L failed fails holds held so.keeps_ledger.shape_same inside so.grows did.grows failed_on held_on
+          (so.untouched turn (omega arith)) came did.fault did.others c.lanes.first so.idle so.first e (sym is ∙ some);
+      rests = rests_next K H turn E J L failed fails holds held so.keeps_ledger.shape_same inside so.grows did.grows failed_on held_on
+          (so.untouched turn (omega arith)) came did.fault
           (g.L.Turns.wanting c.lanes.ledger) (g.L.Turns.wanting c.resume_next-came.new.ledger) did.wanting_same did.idle did.wanting so.rests;
       as_many = so.as_many;
-      found = λ k low inside_k. found_on K H turn J L (g.L.Turns.opens c.lanes.ledger) (g.L.Turns.opens c.resume_next-came.new.ledger) so.keeps_ledger.shape_same did.others did.opens_same k low (omega (arith, inside_k, so.count)) _ (so.found k (omega (arith, low)) inside_k);
-      plans = less_at (IsPlanOf K) c.as_slice-found.result.now turn None (omega (arith, c.lanes-test.true, so.as_many)) c.lanes.plans.items c.pop.new.self.items c.in-Some.planned c.in-Some.ensures.items so.plans;
+      found = λ k low inside_k. found_on K H turn J L (g.L.Turns.opens c.lanes.ledger) (g.L.Turns.opens c.resume_next-came.new.ledger)
+          so.keeps_ledger.shape_same did.others did.opens_same k low (omega (arith, inside_k, so.count)) _ (so.found k (omega (arith, low)) inside_k);
+      plans = less_at (IsPlanOf K) c.as_slice-found.result.now turn None (omega (arith, c.lanes-test.true, so.as_many)) c.lanes.plans.items
+          c.pop.new.self.items c.in-Some.planned c.in-Some.ensures.items so.plans;
       len = omega (arith, did.len, so.len);
       room = did.capacity ∙ so.room;
     }
@@ -111,34 +126,42 @@ returns-in-Some-first-clause-fault g c =
     let failed = HaveFailed (g.L.Turns.opened c.lanes.ledger) (g.L.Turns.faults c.lanes.ledger) in
     let holds = MayHoldBytes (g.L.Turns.capacity c.lanes.ledger) in
     first_cause K E X failed holds c.in-Some-first.fault
-    (first_end K c.lanes.lane E X failed holds c.in-Some-first.fault (omega (arith, c.lanes.invariant.count, c.lanes.auto.lane-end)) (c.lanes.invariant.first c.in-Some-first.fault c.in-Some-first.is))
+    (first_end K c.lanes.lane E X failed holds c.in-Some-first.fault (omega (arith, c.lanes.invariant.count, c.lanes.auto.lane-end))
+    (c.lanes.invariant.first c.in-Some-first.fault c.in-Some-first.is))
 
 pub returns-in-Some-first-clause-least : goal.returns-in-Some-first-clause-least
-returns-in-Some-first-clause-least g c = inr (first_end (g.L.Turns.shape c.args.ledger.now) c.lanes.lane (g.L.Turns.journals c.args.ledger.now) (g.L.Turns.journals c.lanes.ledger)
-    (HaveFailed (g.L.Turns.opened c.lanes.ledger) (g.L.Turns.faults c.lanes.ledger)) (MayHoldBytes (g.L.Turns.capacity c.lanes.ledger)) c.in-Some-first.fault
+returns-in-Some-first-clause-least g c = inr (first_end (g.L.Turns.shape c.args.ledger.now) c.lanes.lane (g.L.Turns.journals c.args.ledger.now)
+    (g.L.Turns.journals c.lanes.ledger)
+    (HaveFailed (g.L.Turns.opened c.lanes.ledger) (g.L.Turns.faults c.lanes.ledger)) (MayHoldBytes (g.L.Turns.capacity c.lanes.ledger))
+    c.in-Some-first.fault
     (omega (arith, c.lanes.invariant.count, c.lanes.auto.lane-end)) (c.lanes.invariant.first c.in-Some-first.fault c.in-Some-first.is))
 
 pub returns-in-Some-first-clause-rests : goal.returns-in-Some-first-clause-rests
-returns-in-Some-first-clause-rests g c = inr (rests_end (g.L.Turns.shape c.args.ledger.now) c.lanes.lane (g.L.Turns.journals c.args.ledger.now) (g.L.Turns.journals c.lanes.ledger)
-    (HaveFailed (g.L.Turns.opened c.lanes.ledger) (g.L.Turns.faults c.lanes.ledger)) (g.L.Turns.wanting c.lanes.ledger) (omega (arith, c.lanes.invariant.count, c.lanes-test.false)) c.lanes.invariant.rests)
+returns-in-Some-first-clause-rests g c = inr (rests_end (g.L.Turns.shape c.args.ledger.now) c.lanes.lane (g.L.Turns.journals c.args.ledger.now)
+    (g.L.Turns.journals c.lanes.ledger)
+    (HaveFailed (g.L.Turns.opened c.lanes.ledger) (g.L.Turns.faults c.lanes.ledger)) (g.L.Turns.wanting c.lanes.ledger)
+    (omega (arith, c.lanes.invariant.count, c.lanes-test.false)) c.lanes.invariant.rests)
 
 pub returns-in-None-clause-resumed : goal.returns-in-None-clause-resumed
 returns-in-None-clause-resumed g c =
     let ends : ResumingEndsLaw = resuming_ends_law in
-    λ mint submissions kept. ends _ _ _ (subst (λ n. ResumedSo (g.L.Turns.shape c.args.ledger.now) n (g.L.Turns.journals c.args.ledger.now) (g.L.Turns.journals c.lanes.ledger))
+    λ mint submissions kept. ends _ _ _ (subst (λ n. ResumedSo (g.L.Turns.shape c.args.ledger.now) n (g.L.Turns.journals c.args.ledger.now)
+    (g.L.Turns.journals c.lanes.ledger))
     (omega (arith, c.lanes.invariant.count, c.lanes-test.false, c.lanes.auto.lane-end)) (c.lanes.invariant.so c.in-None.is mint submissions kept))
 
 pub returns-in-None-clause-told : goal.returns-in-None-clause-told
 returns-in-None-clause-told g c =
     let K = g.L.Turns.shape c.args.ledger.now in
-    λ mint submissions kept. subst (λ n. TellResumed K (g.L.Turns.journals c.args.ledger.now) (g.L.Turns.journals c.lanes.ledger) n c.lanes.batches.items)
+    λ mint submissions kept. subst (λ n. TellResumed K (g.L.Turns.journals c.args.ledger.now) (g.L.Turns.journals c.lanes.ledger) n
+    c.lanes.batches.items)
     (omega (arith, c.lanes.invariant.count, c.lanes-test.false, c.lanes.auto.lane-end)) (c.lanes.invariant.told c.in-None.is mint submissions kept)
 
 pub returns-in-None-clause-quiet : goal.returns-in-None-clause-quiet
 returns-in-None-clause-quiet g c = c.lanes.invariant.quiet c.in-None.is
 
 pub returns-in_default-clause-launches : goal.returns-in_default-clause-launches
-returns-in_default-clause-launches g c = launches_begin (g.L.Turns.shape c.args.ledger.now) (λ _. Nothing) (g.L.Turns.journals c.args.ledger.now) (g.L.Turns.flights c.args.ledger.now)
+returns-in_default-clause-launches g c = launches_begin (g.L.Turns.shape c.args.ledger.now) (λ _. Nothing) (g.L.Turns.journals c.args.ledger.now)
+    (g.L.Turns.flights c.args.ledger.now)
 
 pub returns-in_default-clause-keeps_ledger : goal.returns-in_default-clause-keeps_ledger
 returns-in_default-clause-keeps_ledger g c = ledger_same c.args.ledger.now
@@ -146,7 +169,8 @@ returns-in_default-clause-keeps_ledger g c = ledger_same c.args.ledger.now
 pub unreachable-requires : goal.unreachable-requires
 unreachable-requires g c =
     let so = c.lanes.invariant in
-    some_at (IsPlanOf (g.L.Turns.shape c.args.ledger.now)) c.as_slice-found.result.now c.lanes.lane None (omega (arith, c.lanes-test.true, so.as_many)) c.lanes.plans.items (search rules) so.plans
+    some_at (IsPlanOf (g.L.Turns.shape c.args.ledger.now)) c.as_slice-found.result.now c.lanes.lane None
+    (omega (arith, c.lanes-test.true, so.as_many)) c.lanes.plans.items (search rules) so.plans
 
 pub resume_next-came-requires-clause-found : goal.resume_next-came-requires-clause-found
 resume_next-came-requires-clause-found g c =
@@ -155,7 +179,8 @@ resume_next-came-requires-clause-found g c =
     let opens = g.L.Turns.opens c.lanes.ledger in
     let it = c.index-found-lane.result in
     subst (λ k. IsFound k I opens c.lanes.lane it) (sym so.keeps_ledger.shape_same)
-    (subst (λ x. IsFound (g.L.Turns.shape c.args.ledger.now) I opens c.lanes.lane x) (sym (c.index-found-lane.is ∙ get_or_default c.as_slice-found.result.now c.lanes.lane it None (omega (arith, c.lanes-test.true, so.as_many))))
+    (subst (λ x. IsFound (g.L.Turns.shape c.args.ledger.now) I opens c.lanes.lane x)
+    (sym (c.index-found-lane.is ∙ get_or_default c.as_slice-found.result.now c.lanes.lane it None (omega (arith, c.lanes-test.true, so.as_many))))
     (so.found c.lanes.lane (omega arith) c.lanes-test.true))
 
 pub resume_next-came-requires-clause-planned : goal.resume_next-came-requires-clause-planned
@@ -166,7 +191,8 @@ resume_next-came-requires-clause-planned g c =
     let low : c.lanes.lane < length c.as_slice-found.result.now = omega (arith, c.lanes-test.true, so.as_many) in
     subst (λ k. IsPlanOf k it c.in-Some.planned) (sym so.keeps_ledger.shape_same)
     (subst (λ x. IsPlanOf K x c.in-Some.planned) (sym (c.index-found-lane.is ∙ get_or_default c.as_slice-found.result.now c.lanes.lane it None low))
-    (here_at (IsPlanOf K) c.as_slice-found.result.now c.lanes.lane None low c.lanes.plans.items c.pop.new.self.items c.in-Some.planned c.in-Some.ensures.items so.plans))
+    (here_at (IsPlanOf K) c.as_slice-found.result.now c.lanes.lane None low c.lanes.plans.items c.pop.new.self.items c.in-Some.planned
+    c.in-Some.ensures.items so.plans))
 
 pub returns-in_default-clause-keeps : goal.returns-in_default-clause-keeps
 returns-in_default-clause-keeps g c = stays (g.L.Turns.shape c.args.ledger.now) (g.L.Turns.journals c.args.ledger.now)
@@ -199,7 +225,8 @@ pub returns-in_default-open_lanes-clause-flies : goal.returns-in_default-open_la
 returns-in_default-open_lanes-clause-flies g c = λ mint submissions kept may. may
 
 pub returns-in_default-open_lanes-clause-launches : goal.returns-in_default-open_lanes-clause-launches
-returns-in_default-open_lanes-clause-launches g c = launches_begin (g.L.Turns.shape c.args.ledger.now) (λ _. Nothing) (g.L.Turns.journals c.args.ledger.now) (g.L.Turns.flights c.args.ledger.now)
+returns-in_default-open_lanes-clause-launches g c =
+    launches_begin (g.L.Turns.shape c.args.ledger.now) (λ _. Nothing) (g.L.Turns.journals c.args.ledger.now) (g.L.Turns.flights c.args.ledger.now)
 
 pub returns-in_default-open_lanes-clause-grows : goal.returns-in_default-open_lanes-clause-grows
 returns-in_default-open_lanes-clause-grows g c = λ n. end_self (g.L.Turns.journals c.args.ledger.now n)
@@ -226,7 +253,8 @@ pub returns-in_default-plan_lanes-clause-flies : goal.returns-in_default-plan_la
 returns-in_default-plan_lanes-clause-flies g c = λ mint submissions kept may. may
 
 pub returns-in_default-plan_lanes-clause-launches : goal.returns-in_default-plan_lanes-clause-launches
-returns-in_default-plan_lanes-clause-launches g c = launches_begin (g.L.Turns.shape c.args.ledger.now) (λ _. Nothing) (g.L.Turns.journals c.args.ledger.now) (g.L.Turns.flights c.args.ledger.now)
+returns-in_default-plan_lanes-clause-launches g c =
+    launches_begin (g.L.Turns.shape c.args.ledger.now) (λ _. Nothing) (g.L.Turns.journals c.args.ledger.now) (g.L.Turns.flights c.args.ledger.now)
 
 pub returns-in_default-plan_lanes-clause-grows : goal.returns-in_default-plan_lanes-clause-grows
 returns-in_default-plan_lanes-clause-grows g c = λ n. end_self (g.L.Turns.journals c.args.ledger.now n)
@@ -259,7 +287,11 @@ pub returns-in-Some-first-clause-grows : goal.returns-in-Some-first-clause-grows
 returns-in-Some-first-clause-grows g c = c.lanes.invariant.grows
 
 pub returns-in-Some-first-clause-order : goal.returns-in-Some-first-clause-order
-returns-in-Some-first-clause-order g c = (c.lanes.lane, subst (λ n. c.lanes.lane ≤ n) c.lanes.invariant.count c.lanes.auto.lane-end, c.lanes.invariant.order)
+returns-in-Some-first-clause-order g c = (
+  c.lanes.lane,
+  subst (λ n. c.lanes.lane ≤ n) c.lanes.invariant.count c.lanes.auto.lane-end,
+  c.lanes.invariant.order,
+)
 
 pub returns-in-None-clause-keeps_ledger : goal.returns-in-None-clause-keeps_ledger
 returns-in-None-clause-keeps_ledger g c = c.lanes.invariant.keeps_ledger
@@ -280,14 +312,20 @@ pub returns-in-None-clause-grows : goal.returns-in-None-clause-grows
 returns-in-None-clause-grows g c = c.lanes.invariant.grows
 
 pub returns-in-None-clause-order : goal.returns-in-None-clause-order
-returns-in-None-clause-order g c = (c.lanes.lane, subst (λ n. c.lanes.lane ≤ n) c.lanes.invariant.count c.lanes.auto.lane-end, c.lanes.invariant.order)
+returns-in-None-clause-order g c = (
+  c.lanes.lane,
+  subst (λ n. c.lanes.lane ≤ n) c.lanes.invariant.count c.lanes.auto.lane-end,
+  c.lanes.invariant.order,
+)
 
 pub returns-in-None-clause-idle : goal.returns-in-None-clause-idle
-returns-in-None-clause-idle g c = λ lane low. c.lanes.invariant.idle c.in-None.is lane (omega (arith, low, c.lanes.invariant.count, c.lanes-test.false))
+returns-in-None-clause-idle g c = λ lane low. c.lanes.invariant.idle c.in-None.is lane
+    (omega (arith, low, c.lanes.invariant.count, c.lanes-test.false))
 
 pub resume_next-came-requires-clause-lane : goal.resume_next-came-requires-clause-lane
 resume_next-came-requires-clause-lane g c =
-    subst (λ (k : Shape). IsLaneOf k c.lanes.lane) (sym c.lanes.invariant.keeps_ledger.shape_same) (subst (λ n. c.lanes.lane < n) c.lanes.invariant.count c.lanes-test.true)
+    subst (λ (k : Shape). IsLaneOf k c.lanes.lane) (sym c.lanes.invariant.keeps_ledger.shape_same)
+    (subst (λ n. c.lanes.lane < n) c.lanes.invariant.count c.lanes-test.true)
 
 pub resume_next-came-requires-clause-room : goal.resume_next-came-requires-clause-room
 resume_next-came-requires-clause-room g c = within_room _ c.lanes.lane _ _ c.lanes.invariant.len c.lanes-test.true c.lanes.invariant.room

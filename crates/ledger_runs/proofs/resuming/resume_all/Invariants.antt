@@ -34,8 +34,10 @@ invariant-lanes g l =
       grows : (n : ℕ) → IsEnd (E n) (J n);
       order : TookLanes l.lane E J;
       untouched : (lane : ℕ) → l.lane ≤ lane → IsLaneUntouched lane E J;
-      first : (e : LaneFault) → l.first ≡ Some e → FirstBelow K l.lane E J (HaveFailed (g.L.Turns.opened l.ledger) (g.L.Turns.faults l.ledger)) (MayHoldBytes (g.L.Turns.capacity l.ledger)) e;
-      rests : (lane : ℕ) → lane < l.lane → RestsOrWaits K lane E J (HaveFailed (g.L.Turns.opened l.ledger) (g.L.Turns.faults l.ledger)) (g.L.Turns.wanting l.ledger lane);
+      first : (e : LaneFault) → l.first ≡ Some e → FirstBelow K l.lane E J (HaveFailed (g.L.Turns.opened l.ledger) (g.L.Turns.faults l.ledger))
+          (MayHoldBytes (g.L.Turns.capacity l.ledger)) e;
+      rests : (lane : ℕ) → lane < l.lane → RestsOrWaits K lane E J (HaveFailed (g.L.Turns.opened l.ledger) (g.L.Turns.faults l.ledger))
+          (g.L.Turns.wanting l.ledger lane);
       as_many : length l.found ≡ l.count;
       found : (k : ℕ) → l.lane ≤ k → k < l.count → IsFound K J (g.L.Turns.opens l.ledger) k (get_or l.found k None);
       plans : AllZip (IsPlanOf K) (drop l.lane l.found) (reverse l.plans.items);

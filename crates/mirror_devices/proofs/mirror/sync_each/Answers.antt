@@ -8,21 +8,25 @@ pub returns-in_err-sync_one-clause-tried : goal.returns-in_err-sync_one-clause-t
 returns-in_err-sync_one-clause-tried g c =
     let lt : c.disks.i < length c.disks.disks = omega arith in
     or_same (SyncTried g.D.Disk) (unsynced g.D.Disk) (c.disks.i + 1) c.args.disks.now _
-    (one_more (SyncTried g.D.Disk) c.disks.i c.args.disks.now c.disks.disks (get_or c.disks.disks c.disks.i c.index-disks-i.result) c.sync_one.new.disk c.disks.invariant.tried lt
+    (one_more (SyncTried g.D.Disk) c.disks.i c.args.disks.now c.disks.disks (get_or c.disks.disks c.disks.i c.index-disks-i.result)
+    c.sync_one.new.disk c.disks.invariant.tried lt
     (slice_get-get_or c.disks.disks c.disks.i c.index-disks-i.result lt) c.in_err-sync_one.ensures.tried)
 
 pub returns-in_err-sync_one-clause-failed : goal.returns-in_err-sync_one-clause-failed
 returns-in_err-sync_one-clause-failed g c =
     let lt : c.disks.i < length c.disks.disks = omega arith in
-    on_err c.from_residual.result _ (failed_at g.D.Disk.count _ c.disks.i c.sync_one.new.disk (get_set_same c.disks.disks c.disks.i c.sync_one.new.disk lt) c.in_err-sync_one.ensures.failed)
+    on_err c.from_residual.result _ (failed_at g.D.Disk.count _ c.disks.i c.sync_one.new.disk
+    (get_set_same c.disks.disks c.disks.i c.sync_one.new.disk lt) c.in_err-sync_one.ensures.failed)
 
 pub disks-preserved : goal.disks-preserved
 disks-preserved g c =
     let lt : c.disks.i < length c.disks.disks = omega arith in
     record {
-      tried = one_more (SyncTried g.D.Disk) c.disks.i c.args.disks.now c.disks.disks (get_or c.disks.disks c.disks.i c.index-disks-i.result) c.sync_one.new.disk c.disks.invariant.tried lt
+      tried = one_more (SyncTried g.D.Disk) c.disks.i c.args.disks.now c.disks.disks (get_or c.disks.disks c.disks.i c.index-disks-i.result)
+          c.sync_one.new.disk c.disks.invariant.tried lt
           (slice_get-get_or c.disks.disks c.disks.i c.index-disks-i.result lt) c.in_ok-sync_one.ensures.tried;
-      synced = one_more (Synced g.D.Disk) c.disks.i c.args.disks.now c.disks.disks (get_or c.disks.disks c.disks.i c.index-disks-i.result) c.sync_one.new.disk c.disks.invariant.synced lt
+      synced = one_more (Synced g.D.Disk) c.disks.i c.args.disks.now c.disks.disks (get_or c.disks.disks c.disks.i c.index-disks-i.result)
+          c.sync_one.new.disk c.disks.invariant.synced lt
           (slice_get-get_or c.disks.disks c.disks.i c.index-disks-i.result lt) c.in_ok-sync_one.ensures.synced;
     }
 

@@ -7,7 +7,10 @@ use Rattle.mirror_devices.proofs.Even.{never_failed}
 use Rattle.mirror_devices.proofs.mirror_rack.empty_mirror.Goals as goal
 
 pub disks-init : goal.disks-init
-disks-init c = (ap length c.in_ok-disks.ensures.items, subst (AreEmpty c.args.capacity) (sym c.in_ok-disks.ensures.items) (none_empty c.args.capacity))
+disks-init c = (
+  ap length c.in_ok-disks.ensures.items,
+  subst (AreEmpty c.args.capacity) (sym c.in_ok-disks.ensures.items) (none_empty c.args.capacity),
+)
 
 pub disks-preserved : goal.disks-preserved
 disks-preserved c =
@@ -16,11 +19,13 @@ disks-preserved c =
     let long = ap length c.in_ok-push.ensures.items in
     let more = length-append disks (c.in_ok-disk.disk ∷ []) in (
       omega (arith, long, more, many),
-      subst (AreEmpty c.args.capacity) (sym c.in_ok-push.ensures.items) (one_empty c.args.capacity disks c.in_ok-disk.disk c.disks.invariant.1 (c.in_ok-disk.ensures.empty, c.in_ok-disk.ensures.capacity)),
+      subst (AreEmpty c.args.capacity) (sym c.in_ok-push.ensures.items)
+          (one_empty c.args.capacity disks c.in_ok-disk.disk c.disks.invariant.1 (c.in_ok-disk.ensures.empty, c.in_ok-disk.ensures.capacity)),
     )
 
 pub new-requires-2-clause-some : goal.new-requires-2-clause-some
-new-requires-2-clause-some c = let many = c.disks.invariant.0 in let past = c.disks-test.false in let end = c.disks.auto in omega (arith, many, past, end, c.requires)
+new-requires-2-clause-some c = let many = c.disks.invariant.0 in let past = c.disks-test.false in let end = c.disks.auto in
+    omega (arith, many, past, end, c.requires)
 
 pub new-requires-2-clause-even : goal.new-requires-2-clause-even
 new-requires-2-clause-even c = empty_even c.args.capacity c.disks.disks.items c.disks.invariant.1

@@ -7,4 +7,5 @@ use Rattle.node_journal.proofs.opening.no_log_fault.Goals as goal
 pub returns-in-Cut-clause-refusal : goal.returns-in-Cut-clause-refusal
 returns-in-Cut-clause-refusal g c = λ limit bytes is.
     let cut = rw c.in-Cut.is at is in
-    c.cut_fault.ensures.refusal limit bytes (subst (λ (l : List Record). CutsOff (IsInGrammar c.in-Cut.header) l c.in-Cut.at bytes) (sym c.deref.ensures.value) cut.1)
+    c.cut_fault.ensures.refusal limit bytes (subst (λ (l : List Record). CutsOff (IsInGrammar c.in-Cut.header) l c.in-Cut.at bytes)
+    (sym c.deref.ensures.value) cut.1)

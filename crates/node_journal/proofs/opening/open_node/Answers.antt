@@ -50,10 +50,12 @@ returns-in-Ok-core_of-clause-opens g c = λ bytes told.
     )
 
 pub returns-in-Err-core_of-clause-refusal : goal.returns-in-Err-core_of-clause-refusal
-returns-in-Err-core_of-clause-refusal g c = λ bytes told. rw (← c.in-Ok.ensures.limit) (c.in-Err-core_of.ensures.refusal bytes (c.in-Ok.ensures.opens bytes told).0)
+returns-in-Err-core_of-clause-refusal g c = λ bytes told. rw (← c.in-Ok.ensures.limit)
+    (c.in-Err-core_of.ensures.refusal bytes (c.in-Ok.ensures.opens bytes told).0)
 
 pub returns-in-Err-clause-refusal : goal.returns-in-Err-clause-refusal
-returns-in-Err-clause-refusal g c = λ bytes told. c.no_log_fault-fault.ensures.refusal (g.D.Disk.limit c.args.disk) bytes (c.in-Err.ensures.refusal bytes told)
+returns-in-Err-clause-refusal g c = λ bytes told. c.no_log_fault-fault.ensures.refusal (g.D.Disk.limit c.args.disk) bytes
+    (c.in-Err.ensures.refusal bytes told)
 
 pub returns-in-Err-clause-same : goal.returns-in-Err-clause-same
 returns-in-Err-clause-same g c = λ unfailed. c.in-Err.ensures.same (λ is. unfailed (c.no_log_fault-fault.ensures.kept DiskFault is))

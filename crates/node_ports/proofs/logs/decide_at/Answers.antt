@@ -25,11 +25,15 @@ decide-answer-requires-clause-named g c =
 
 pub returns-clause-told : goal.returns-clause-told
 returns-clause-told g c =
-    decide_told c.args.lane c.args.replies.now c.args.log.now.broken (sight c.args.log.now) (sight c.decide-answer.new.self) c.decide-answer.result c.requires.replies c.decide-answer.ensures.meets c.decide-answer.ensures.keeps.journal c.header-header.ensures.sound.since_opened c.header-header.ensures.sound.since_broken c.header-header.ensures.sound.landed c.header-header.ensures.sound.unbroken
+    decide_told c.args.lane c.args.replies.now c.args.log.now.broken (sight c.args.log.now) (sight c.decide-answer.new.self) c.decide-answer.result
+    c.requires.replies c.decide-answer.ensures.meets c.decide-answer.ensures.keeps.journal c.header-header.ensures.sound.since_opened
+    c.header-header.ensures.sound.since_broken c.header-header.ensures.sound.landed c.header-header.ensures.sound.unbroken
 
 pub returns-clause-fault : goal.returns-clause-fault
 returns-clause-fault g c =
-    decide_fault c.args.lane c.args.replies.now c.args.log.now.broken (sight c.args.log.now) (sight c.decide-answer.new.self) c.decide-answer.result c.decide-answer.ensures.fault c.decide-answer.ensures.keeps.journal c.header-header.ensures.sound.since_opened c.header-header.ensures.sound.since_broken c.header-header.ensures.sound.landed c.header-header.ensures.sound.unbroken
+    decide_fault c.args.lane c.args.replies.now c.args.log.now.broken (sight c.args.log.now) (sight c.decide-answer.new.self) c.decide-answer.result
+    c.decide-answer.ensures.fault c.decide-answer.ensures.keeps.journal c.header-header.ensures.sound.since_opened
+    c.header-header.ensures.sound.since_broken c.header-header.ensures.sound.landed c.header-header.ensures.sound.unbroken
 
 pub returns-clause-stamp : goal.returns-clause-stamp
 returns-clause-stamp g c =
@@ -37,11 +41,13 @@ returns-clause-stamp g c =
 
 pub returns-clause-phase : goal.returns-clause-phase
 returns-clause-phase g c =
-    decide_phase c.args.lane c.decide-answer.new.out.items (sight c.args.log.now) (sight c.decide-answer.new.self) c.decide-answer.result c.decide-answer.ensures.appended
+    decide_phase c.args.lane c.decide-answer.new.out.items (sight c.args.log.now) (sight c.decide-answer.new.self) c.decide-answer.result
+    c.decide-answer.ensures.appended
 
 pub returns-clause-written : goal.returns-clause-written
 returns-clause-written g c =
-    decide_written c.args.lane c.decide-answer.new.out.items (sight c.args.log.now) (sight c.decide-answer.new.self) c.decide-answer.result c.decide-answer.ensures.appended
+    decide_written c.args.lane c.decide-answer.new.out.items (sight c.args.log.now) (sight c.decide-answer.new.self) c.decide-answer.result
+    c.decide-answer.ensures.appended
 
 pub returns-clause-outcomes : goal.returns-clause-outcomes
 returns-clause-outcomes g c =
@@ -49,11 +55,14 @@ returns-clause-outcomes g c =
 
 pub returns-clause-others : goal.returns-clause-others
 returns-clause-others g c =
-    decide_rest c.args.lane c.decide-answer.new.out.items (sight c.args.log.now) (sight c.decide-answer.new.self) c.decide-answer.result c.decide-answer.ensures.appended c.decide-answer.ensures.as_before
+    decide_rest c.args.lane c.decide-answer.new.out.items (sight c.args.log.now) (sight c.decide-answer.new.self) c.decide-answer.result
+    c.decide-answer.ensures.appended c.decide-answer.ensures.as_before
 
 pub returns-clause-node : goal.returns-clause-node
 returns-clause-node g c =
-    still_decided false c.args.log.now.broken (λ r. commit_due c.args.log.now.header.shape c.args.replies.now r None c.args.log.now.journal) (sight c.args.log.now) (sight c.decide-answer.new.self) c.decide-answer.result c.decide-answer.ensures.keeps.node c.decide-answer.ensures.fault c.decide-answer.ensures.whole c.header-header.ensures.sound.landed
+    still_decided false c.args.log.now.broken (λ r. commit_due c.args.log.now.header.shape c.args.replies.now r None c.args.log.now.journal)
+    (sight c.args.log.now) (sight c.decide-answer.new.self) c.decide-answer.result c.decide-answer.ensures.keeps.node
+    c.decide-answer.ensures.fault c.decide-answer.ensures.whole c.header-header.ensures.sound.landed
 
 pub returns-clause-later : goal.returns-clause-later
 returns-clause-later g c =
@@ -65,5 +74,7 @@ returns-clause-holds g c =
 
 pub returns-clause-moves : goal.returns-clause-moves
 returns-clause-moves g c =
-    decided_moves c.args.lane c.args.log.now.header.shape c.args.replies.now (sight c.args.log.now) (sight c.decide-answer.new.self) c.args.log.now.broken c.decide-answer.new.self.broken c.decide-answer.new.out.items
-    c.header-header.ensures.sound.landed c.header-after.ensures.sound.landed c.decide-answer.ensures.own c.decide-answer.result c.decide-answer.ensures.appended c.decide-answer.ensures.whole c.decide-answer.ensures.keeps.broken c.decide-answer.ensures.fault
+    decided_moves c.args.lane c.args.log.now.header.shape c.args.replies.now (sight c.args.log.now) (sight c.decide-answer.new.self)
+    c.args.log.now.broken c.decide-answer.new.self.broken c.decide-answer.new.out.items
+    c.header-header.ensures.sound.landed c.header-after.ensures.sound.landed c.decide-answer.ensures.own c.decide-answer.result
+    c.decide-answer.ensures.appended c.decide-answer.ensures.whole c.decide-answer.ensures.keeps.broken c.decide-answer.ensures.fault

@@ -11,7 +11,9 @@ done-requires-clause-own g c =
 
 pub returns-clause-told : goal.returns-clause-told
 returns-clause-told g c =
-    told_alone c.args.lane false (done_due c.args.lane c.args.cause) c.args.log.now.broken (sight c.args.log.now) (sight c.done.new.self) c.done.result c.done.ensures.meets c.done.ensures.keeps.journal c.header-header.ensures.sound.since_opened c.header-header.ensures.sound.since_broken c.header-header.ensures.sound.landed c.header-header.ensures.sound.unbroken
+    told_alone c.args.lane false (done_due c.args.lane c.args.cause) c.args.log.now.broken (sight c.args.log.now) (sight c.done.new.self)
+    c.done.result c.done.ensures.meets c.done.ensures.keeps.journal c.header-header.ensures.sound.since_opened
+    c.header-header.ensures.sound.since_broken c.header-header.ensures.sound.landed c.header-header.ensures.sound.unbroken
 
 pub returns-clause-stamp : goal.returns-clause-stamp
 returns-clause-stamp g c =
@@ -27,11 +29,13 @@ returns-clause-others g c =
 
 pub returns-clause-node : goal.returns-clause-node
 returns-clause-node g c =
-    still_node false c.args.log.now.broken (done_due c.args.lane c.args.cause None c.args.log.now.journal) (sight c.args.log.now) (sight c.done.new.self) c.done.result c.done.ensures.meets c.header-header.ensures.sound.landed
+    still_node false c.args.log.now.broken (done_due c.args.lane c.args.cause None c.args.log.now.journal) (sight c.args.log.now)
+    (sight c.done.new.self) c.done.result c.done.ensures.meets c.header-header.ensures.sound.landed
 
 pub returns-clause-later : goal.returns-clause-later
 returns-clause-later g c =
-    later_of false (done_due c.args.lane c.args.cause c.args.log.now.broken c.args.log.now.journal) (sight c.args.log.now) (sight c.done.new.self) c.done.result c.done.ensures.meets
+    later_of false (done_due c.args.lane c.args.cause c.args.log.now.broken c.args.log.now.journal) (sight c.args.log.now) (sight c.done.new.self)
+    c.done.result c.done.ensures.meets
 
 pub returns-clause-holds : goal.returns-clause-holds
 returns-clause-holds g c =

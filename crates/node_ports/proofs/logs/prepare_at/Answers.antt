@@ -26,31 +26,41 @@ prepare-requires-clause-short g c =
 
 pub returns-clause-told : goal.returns-clause-told
 returns-clause-told g c =
-    told_alone c.args.lane true (prepare_due c.args.log.now.header.shape c.args.log.now.capacity c.args.lane c.args.txs.now) c.args.log.now.broken (sight c.args.log.now) (sight c.prepare.new.self) c.prepare.result c.prepare.ensures.meets c.prepare.ensures.keeps.journal c.header-header.ensures.sound.since_opened c.header-header.ensures.sound.since_broken c.header-header.ensures.sound.landed c.header-header.ensures.sound.unbroken
+    told_alone c.args.lane true (prepare_due c.args.log.now.header.shape c.args.log.now.capacity c.args.lane c.args.txs.now) c.args.log.now.broken
+    (sight c.args.log.now) (sight c.prepare.new.self) c.prepare.result c.prepare.ensures.meets c.prepare.ensures.keeps.journal
+    c.header-header.ensures.sound.since_opened c.header-header.ensures.sound.since_broken c.header-header.ensures.sound.landed
+    c.header-header.ensures.sound.unbroken
 
 pub returns-clause-prepared : goal.returns-clause-prepared
 returns-clause-prepared g c =
-    prepare_named c.args.lane c.args.txs.now c.args.log.now.broken (sight c.args.log.now) (sight c.prepare.new.self) c.prepare.result c.prepare.ensures.meets c.prepare.ensures.keeps.journal
+    prepare_named c.args.lane c.args.txs.now c.args.log.now.broken (sight c.args.log.now) (sight c.prepare.new.self) c.prepare.result
+    c.prepare.ensures.meets c.prepare.ensures.keeps.journal
 
 pub returns-clause-phase : goal.returns-clause-phase
 returns-clause-phase g c =
-    prepare_phase c.args.lane c.args.txs.now c.args.log.now.broken (sight c.args.log.now) (sight c.prepare.new.self) c.prepare.result c.prepare.ensures.meets
+    prepare_phase c.args.lane c.args.txs.now c.args.log.now.broken (sight c.args.log.now) (sight c.prepare.new.self) c.prepare.result
+    c.prepare.ensures.meets
 
 pub returns-clause-txs : goal.returns-clause-txs
 returns-clause-txs g c =
-    prepare_txs c.args.lane c.args.txs.now c.args.log.now.broken (sight c.args.log.now) (sight c.prepare.new.self) c.prepare.result c.prepare.ensures.meets
+    prepare_txs c.args.lane c.args.txs.now c.args.log.now.broken (sight c.args.log.now) (sight c.prepare.new.self) c.prepare.result
+    c.prepare.ensures.meets
 
 pub returns-clause-others : goal.returns-clause-others
 returns-clause-others g c =
-    prepare_rest c.args.lane c.args.txs.now c.args.log.now.broken (sight c.args.log.now) (sight c.prepare.new.self) c.prepare.result c.prepare.ensures.meets
+    prepare_rest c.args.lane c.args.txs.now c.args.log.now.broken (sight c.args.log.now) (sight c.prepare.new.self) c.prepare.result
+    c.prepare.ensures.meets
 
 pub returns-clause-node : goal.returns-clause-node
 returns-clause-node g c =
-    still_node true c.args.log.now.broken (prepare_due c.args.log.now.header.shape c.args.log.now.capacity c.args.lane c.args.txs.now None c.args.log.now.journal) (sight c.args.log.now) (sight c.prepare.new.self) c.prepare.result c.prepare.ensures.meets c.header-header.ensures.sound.landed
+    still_node true c.args.log.now.broken (prepare_due c.args.log.now.header.shape c.args.log.now.capacity c.args.lane c.args.txs.now None
+    c.args.log.now.journal) (sight c.args.log.now) (sight c.prepare.new.self) c.prepare.result c.prepare.ensures.meets
+    c.header-header.ensures.sound.landed
 
 pub returns-clause-later : goal.returns-clause-later
 returns-clause-later g c =
-    later_of true (prepare_due c.args.log.now.header.shape c.args.log.now.capacity c.args.lane c.args.txs.now c.args.log.now.broken c.args.log.now.journal) (sight c.args.log.now) (sight c.prepare.new.self) c.prepare.result c.prepare.ensures.meets
+    later_of true (prepare_due c.args.log.now.header.shape c.args.log.now.capacity c.args.lane c.args.txs.now c.args.log.now.broken
+    c.args.log.now.journal) (sight c.args.log.now) (sight c.prepare.new.self) c.prepare.result c.prepare.ensures.meets
 
 pub returns-clause-holds : goal.returns-clause-holds
 returns-clause-holds g c =

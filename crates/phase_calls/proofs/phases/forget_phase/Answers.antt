@@ -10,7 +10,8 @@ make_each-requires-after_bounds g c κs within =
     record {
       rising = a.shards.0;
       taken = all_taken P.sight _ (λ s d. IsForgetCall s.header d) (λ d p. P.serves p d.batch.lane)
-          (λ d p fit own port call e f. asked_of (λ x y. IsForgetCall (P.sight y).header x) (λ x y. P.serves y x.batch.lane) call.now d port.now p f e fit own)
+          (λ d p fit own port call e f. asked_of (λ x y. IsForgetCall (P.sight y).header x) (λ x y. P.serves y x.batch.lane) call.now d port.now p f
+          e fit own)
           c.args.ports.now c.args.calls.now a.shards.1 a.fit a.mine;
       empty = a.empty;
       room = a.room;
@@ -23,7 +24,8 @@ returns g c =
     let each = c.make_each.ensures in
     record {
       told = record {
-        made = phase_so _ makes (λ d p q a m. made_of makes m.call.now d m.port.now p m.after_call.now q a m.call_is m.port_is m.left m.made) c.args.calls.now c.args.ports.now c.make_each.new.ports c.make_each.new.out.items each.made;
+        made = phase_so _ makes (λ d p q a m. made_of makes m.call.now d m.port.now p m.after_call.now q a m.call_is m.port_is m.left m.made)
+            c.args.calls.now c.args.ports.now c.make_each.new.ports c.make_each.new.out.items each.made;
         capacity = each.capacity;
       };
     }

@@ -10,6 +10,7 @@ at_each-requires-after_bounds g c κs within =
 pub returns : goal.returns
 returns g c =
     record {
-      made = filled (Makes g.F.Fn c.args.f.now) c.args.calls.now c.args.ports.now c.at_each.new.ports c.hold_places.new.out c.at_each.new.answers c.hold_places.ensures.count c.at_each.ensures;
+      made = filled (Makes g.F.Fn c.args.f.now) c.args.calls.now c.args.ports.now c.at_each.new.ports c.hold_places.new.out c.at_each.new.answers
+          c.hold_places.ensures.count c.at_each.ensures;
       capacity = c.hold_places.ensures.capacity;
     }

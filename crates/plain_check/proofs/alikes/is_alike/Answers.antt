@@ -12,4 +12,6 @@ returns-then-count_of-eq1 c =
     let one : c.count_of.result ≡ 1 = grind (arith, common_steps, c.if-count_of-eq1.true) in
     alike_by c.args.shape.now (journals_in c.args.journals.now) c.args.batch.now c.are_alike_below.result
     (ap (λ l. count_of 7 l c.args.batch.now) (sym c.home_journal.ensures) ∙ sym c.count_of.ensures.count ∙ one)
-    (subst (λ n. IsTrue c.are_alike_below.result ↔ ((s : ℕ) → s < n → IsAlikeAt c.args.shape.now (journals_in c.args.journals.now) c.args.batch.now s)) c.shards.ensures.value c.are_alike_below.ensures)
+    (subst (λ n. IsTrue c.are_alike_below.result ↔
+    ((s : ℕ) → s < n → IsAlikeAt c.args.shape.now (journals_in c.args.journals.now) c.args.batch.now s)) c.shards.ensures.value
+    c.are_alike_below.ensures)

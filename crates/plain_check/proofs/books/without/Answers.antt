@@ -9,5 +9,6 @@ use Rattle.plain_check.proofs.books.without.Goals as goal
 
 pub returns-clause-others : goal.returns-clause-others
 returns-clause-others c =
-    let e : c.from_vec.result ≡ filter (λ x. not (eq_by_cmp (slice_cmp nat_cmp) (key c.args.p.now) (key x.point))) c.args.coins.now = grind (arith, common_steps) in
+    let e : c.from_vec.result ≡ filter (λ x. not (eq_by_cmp (slice_cmp nat_cmp) (key c.args.p.now) (key x.point))) c.args.coins.now =
+    grind (arith, common_steps) in
     ap book_of e ∙ book_without (key c.args.p.now) c.args.coins.now

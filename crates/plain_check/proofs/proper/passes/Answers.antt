@@ -7,4 +7,5 @@ use Rattle.plain_check.proofs.proper.passes.Goals as goal
 pub returns-in-Prepare : goal.returns-in-Prepare
 returns-in-Prepare c =
     subst (λ r. IfOk c.are_proper_compact.result (λ told. IsTrue told ↔ TxsPass (IsProperCompact c.args.submissions.now) r)) (sym c.in-Prepare.is)
-    (subst (λ ks. IfOk c.are_proper_compact.result (λ told. IsTrue told ↔ All (IsProperCompact c.args.submissions.now) ks)) c.as_slice.ensures c.are_proper_compact.ensures)
+    (subst (λ ks. IfOk c.are_proper_compact.result (λ told. IsTrue told ↔ All (IsProperCompact c.args.submissions.now) ks)) c.as_slice.ensures
+    c.are_proper_compact.ensures)

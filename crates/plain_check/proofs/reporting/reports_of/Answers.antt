@@ -19,11 +19,13 @@ files-preserved g c =
     let told : AreTold K verdicts E X (take c.files.k files) own c.in_ok-reports.reports =
     subst (λ f. AreTold K verdicts E X (take c.files.k files) f c.in_ok-reports.reports) c.as_slice.ensures
     (subst (λ e. AreTold K verdicts E X e c.as_slice.result.now c.in_ok-reports.reports) c.split_at.ensures.front c.in_ok-reports.ensures) in
-    let pushed : c.push.new.self.items ≡ c.files.all.items ++ c.in_ok-reports.reports ∷ [] = pushed_is c.push.result c.in_ok-ok.field-0 _ _ c.files.all.items c.push.ensures.items c.in_ok-ok.ensures.value in
+    let pushed : c.push.new.self.items ≡ c.files.all.items ++ c.in_ok-reports.reports ∷ [] =
+    pushed_is c.push.result c.in_ok-ok.field-0 _ _ c.files.all.items c.push.ensures.items c.in_ok-ok.ensures.value in
     let so = c.files.invariant.count in
     record {
       count = grind (arith, common_steps, pushed, so);
-      told = subst (λ l. EachFileTold K verdicts E X files l) (sym pushed) (one_file_more K verdicts E X files c.files.all.items c.files.k own c.in_ok-reports.reports so here told c.files.invariant.told);
+      told = subst (λ l. EachFileTold K verdicts E X files l) (sym pushed)
+          (one_file_more K verdicts E X files c.files.all.items c.files.k own c.in_ok-reports.reports so here told c.files.invariant.told);
     }
 
 pub returns : goal.returns

@@ -9,5 +9,6 @@ pub returns-in-File : goal.returns-in-File
 returns-in-File c =
     let I = journals_in c.args.old.now in
     let J = journals_in c.args.new.now in
-    let lists = subst (λ l. IfOk c.is_file_run.result (λ told. IsTrue told ↔ IsFileRun c.args.shape.now (sent_in l) I J)) c.as_slice.ensures.value c.is_file_run.ensures in
+    let lists = subst (λ l. IfOk c.is_file_run.result (λ told. IsTrue told ↔ IsFileRun c.args.shape.now (sent_in l) I J)) c.as_slice.ensures.value
+    c.is_file_run.ensures in
     subst (λ s. IfOk c.is_file_run.result (λ told. IsTrue told ↔ StageRuns c.args.shape.now s I J)) (sym c.in-File.is) lists

@@ -8,6 +8,7 @@ pub returns : goal.returns
 returns t c =
     let some : 0 < c.args.n = omega arith in
     let step = journals_step c.args.rows.now c.args.node c.args.n some in
-    let e : c.put.new.out.items ++ journals_from c.args.rows.now (c.args.node + 1) (c.args.n - 1) ≡ c.args.out.now.items ++ journals_from c.args.rows.now c.args.node c.args.n =
+    let e : c.put.new.out.items ++ journals_from c.args.rows.now (c.args.node + 1) (c.args.n - 1)
+    ≡ c.args.out.now.items ++ journals_from c.args.rows.now c.args.node c.args.n =
     grind (arith, common_steps, step) in
     rw (← e) c.add_journals.ensures

@@ -3,4 +3,5 @@ use Rattle.plain_check.proofs.Pages.{printed}
 use Rattle.plain_check.proofs.telling.put_totals.Goals as goal
 
 pub returns : goal.returns
-returns c = printed c.args.page.now.text.items c.write_audit.new.out.text.items (audit_text c.args.totals.now) c.write_audit.result c.write_audit.ensures.prints
+returns c = printed c.args.page.now.text.items c.write_audit.new.out.text.items (audit_text c.args.totals.now) c.write_audit.result
+    c.write_audit.ensures.prints

@@ -18,7 +18,8 @@ returns g c =
     let first : c.put.new.out.items ≡ Resume ∷ [] = c.in_ok-put.ensures ∙ ap (λ l. l ++ Resume ∷ []) c.new-stages.ensures.items in
     let all : c.as_slice.result.now ≡ Resume ∷ added.0 = c.as_slice.ensures.value ∙ added.1 ∙ ap (λ l. l ++ added.0) first in
     IfOk-weaker c.are_stages.result (λ told. IsTrue told ↔ RunsBy c.args.shape.now c.as_slice.result.now E X)
-    (λ told. (sound : FullTx → Bool) → TellsSound (g.V.Verifier.verdict_of c.args.verifier.now) sound → IsTrue told ↔ Waves c.args.shape.now sound c.args.files.now E X)
+    (λ told. (sound : FullTx → Bool) → TellsSound (g.V.Verifier.verdict_of c.args.verifier.now) sound
+    → IsTrue told ↔ Waves c.args.shape.now sound c.args.files.now E X)
     (λ told h sound tells.
     let here : IsTrue told ↔ RunsBy c.args.shape.now (Resume ∷ added.0) E X = subst (λ l. IsTrue told ↔ RunsBy c.args.shape.now l E X) all h in
     let both = waves_by c.args.shape.now sound c.args.files.now added.0 E X (added.2 sound tells) in

@@ -3,15 +3,23 @@ use Rattle.port_sets.proofs.Turning.{owning, owns_on, owned, none_left, room_fir
 use Rattle.port_sets.proofs.sharing.own_logs.Goals as goal
 
 pub loop-node-init : goal.loop-node-init
-loop-node-init g c = (owning (λ s. s.node) c.args.shared.items c.args.nodes.items c.requires.empty, room_first c.args.shared.items c.args.nodes.items _ c.requires.empty c.requires.room)
+loop-node-init g c = (
+  owning (λ s. s.node) c.args.shared.items c.args.nodes.items c.requires.empty,
+  room_first c.args.shared.items c.args.nodes.items _ c.requires.empty c.requires.room,
+)
 
 pub loop-node-preserved : goal.loop-node-preserved
 loop-node-preserved g c =
-    let inv = c.loop-node.invariant in
-    (owns_on (λ s. s.node) c.args.shared.items c.loop-node.shared.items c.pop.new.self.items c.loop-node.nodes.items c.push_reserved.new.self.items c.in-Some.field-0.node c.in-Some.field-0 inv.0 c.in-Some.ensures.items c.push_reserved.ensures.items refl, room_on c.loop-node.shared.items c.pop.new.self.items c.loop-node.nodes.items c.in-Some.field-0 _ c.in-Some.ensures.items inv.1 c.push_reserved.new.self.items _ _ c.push_reserved.ensures.items c.push_reserved.ensures.capacity)
+    let inv = c.loop-node.invariant in (
+      owns_on (λ s. s.node) c.args.shared.items c.loop-node.shared.items c.pop.new.self.items c.loop-node.nodes.items c.push_reserved.new.self.items
+          c.in-Some.field-0.node c.in-Some.field-0 inv.0 c.in-Some.ensures.items c.push_reserved.ensures.items refl,
+      room_on c.loop-node.shared.items c.pop.new.self.items c.loop-node.nodes.items c.in-Some.field-0 _ c.in-Some.ensures.items inv.1
+          c.push_reserved.new.self.items _ _ c.push_reserved.ensures.items c.push_reserved.ensures.capacity,
+    )
 
 pub push_reserved-requires : goal.push_reserved-requires
-push_reserved-requires g c = has_room c.loop-node.shared.items c.pop.new.self.items c.loop-node.nodes.items c.in-Some.field-0 _ c.in-Some.ensures.items c.loop-node.invariant.1 _ c.loop-node.nodes.ok.0
+push_reserved-requires g c = has_room c.loop-node.shared.items c.pop.new.self.items c.loop-node.nodes.items c.in-Some.field-0 _
+    c.in-Some.ensures.items c.loop-node.invariant.1 _ c.loop-node.nodes.ok.0
 
 pub destroy_empty-requires : goal.destroy_empty-requires
 destroy_empty-requires g c = c.in_default.ensures.cases.1
@@ -19,4 +27,5 @@ destroy_empty-requires g c = c.in_default.ensures.cases.1
 pub returns : goal.returns
 returns g c =
     c.reverse.ensures.items
-    ∙ owned (λ s. s.node) c.args.shared.items c.loop-node.shared.items c.loop-node.nodes.items c.loop-node.invariant.0 (none_left c.loop-node.shared.items _ c.loop-node.shared.ok.0 c.in_default.ensures.cases.0)
+    ∙ owned (λ s. s.node) c.args.shared.items c.loop-node.shared.items c.loop-node.nodes.items c.loop-node.invariant.0
+    (none_left c.loop-node.shared.items _ c.loop-node.shared.ok.0 c.in_default.ensures.cases.0)

@@ -16,7 +16,10 @@ returns-in-Err-clause-refusal g c = record {
   before = [];
   places = omega arith;
   opened = tt;
-  fails = (((g.N.OnDisk.may_fail c.args.first).0, tt), λ was is bytes told. (g.N.OnDisk.free c.args.first (Some c.args.ledger.now) (g.R.Disk.Disk.limit was) bytes).0);
+  fails = (
+    ((g.N.OnDisk.may_fail c.args.first).0, tt),
+    λ was is bytes told. (g.N.OnDisk.free c.args.first (Some c.args.ledger.now) (g.R.Disk.Disk.limit was) bytes).0,
+  );
 }
 
 pub nodes_onto-requires-clause-opened : goal.nodes_onto-requires-clause-opened
@@ -25,7 +28,8 @@ nodes_onto-requires-clause-opened g c =
     let n = g.N.OnDisk in
     let slots = c.open_taken-slots.result.items in
     let none : AreNotRefused slots = subst (λ l. AreNotRefused l) c.as_slice.ensures.value c.in-None.ensures.0 in
-    are_open d n.disk_of n.opens n.fits n.refusals n.refused c.args.ledger.now (g.R.Rack.held c.args.rack.now) (g.R.Rack.count c.args.rack.now) c.args.first slots c.open_taken-slots.ensures.came none
+    are_open d n.disk_of n.opens n.fits n.refusals n.refused c.args.ledger.now (g.R.Rack.held c.args.rack.now) (g.R.Rack.count c.args.rack.now)
+    c.args.first slots c.open_taken-slots.ensures.came none
 
 pub returns-in-None-clause-opened : goal.returns-in-None-clause-opened
 returns-in-None-clause-opened g c =
@@ -36,13 +40,16 @@ returns-in-None-clause-opened g c =
     let can_put = g.R.Rack.can_put c.open_taken-slots.new.rack in
     let slots = c.open_taken-slots.result.items in
     let none : AreNotRefused slots = subst (λ l. AreNotRefused l) c.as_slice.ensures.value c.in-None.ensures.0 in
-    let are : AreNodesOpen slots = are_open d n.disk_of n.opens n.fits n.refusals n.refused c.args.ledger.now held before c.args.first slots c.open_taken-slots.ensures.came none in
+    let are : AreNodesOpen slots = are_open d n.disk_of n.opens n.fits n.refusals n.refused c.args.ledger.now held before c.args.first slots
+    c.open_taken-slots.ensures.came none in
     record {
       more = nodes_in slots;
       parts = c.nodes_onto.ensures ∙ ap (λ (l : List g.row.N.Denot). l ++ nodes_in slots) c.in-Ok.ensures.kept;
       all = omega (arith, count_of slots are, c.open_taken-slots.ensures.some, c.in-None.ensures.1, ap length c.as_slice.ensures.value);
-      each = each_both (OpensAt d n.disk_of n.opens n.fits n.refusals n.refused c.args.ledger.now held before) (MayReturn (λ y. d.count (n.disk_of y)) can_put) c.args.first (nodes_in slots)
-          (each_open d n.disk_of n.opens n.fits n.refusals n.refused c.args.ledger.now held before c.args.first slots c.open_taken-slots.ensures.came are)
+      each = each_both (OpensAt d n.disk_of n.opens n.fits n.refusals n.refused c.args.ledger.now held before)
+          (MayReturn (λ y. d.count (n.disk_of y)) can_put) c.args.first (nodes_in slots)
+          (each_open d n.disk_of n.opens n.fits n.refusals n.refused c.args.ledger.now held before c.args.first slots c.open_taken-slots.ensures.came
+          are)
           (each_out d n.disk_of can_put c.args.first slots are c.open_taken-slots.ensures.out);
     }
 
@@ -56,15 +63,19 @@ returns-in-Some-clause-refusal g c =
     let slots = c.open_taken-slots.result.items in
     let end = c.args.first + c.args.count in
     let node = c.args.first + length slots in
-    let why : IsFirstNodeFault c.args.first c.args.count slots c.in-Some.fault = subst (λ l. IsFirstNodeFault c.args.first c.args.count l c.in-Some.fault) c.as_slice.ensures.value c.in-Some.ensures in
+    let why : IsFirstNodeFault c.args.first c.args.count slots c.in-Some.fault =
+    subst (λ l. IsFirstNodeFault c.args.first c.args.count l c.in-Some.fault) c.as_slice.ensures.value c.in-Some.ensures in
     ⊎_elim
     (λ refused. refused_first d n.disk_of n.opens n.fits n.refusals n.refused c.args.ledger.now held before now c.args.first end slots c.in-Some.fault
     (omega (arith, c.open_taken-slots.ensures.some)) c.open_taken-slots.ensures.came c.put_back.ensures.counted refused)
     (λ missed. fails_behind d n.disk_of n.opens n.fits n.refusals n.refused c.args.ledger.now held before now c.args.first end slots c.in-Some.fault
     (omega (arith, missed.1)) c.open_taken-slots.ensures.came
-    (are_open d n.disk_of n.opens n.fits n.refusals n.refused c.args.ledger.now held before c.args.first slots c.open_taken-slots.ensures.came missed.0)
-    (subst (λ (a : Answer). FailsAt d n.disk_of n.opens n.fits n.refusals n.refused c.args.ledger.now held before now node a) (sym missed.2)
-    (((n.may_fail node).1, (refl, omega (arith, c.open_taken-slots.ensures.failed missed.1, c.put_back.ensures.others.later node))), λ was is bytes told. (n.free node (Some c.args.ledger.now) (d.limit was) bytes).1)))
+    (are_open d n.disk_of n.opens n.fits n.refusals n.refused c.args.ledger.now held before c.args.first slots c.open_taken-slots.ensures.came
+    missed.0)
+    (subst (λ (a : Answer). FailsAt d n.disk_of n.opens n.fits n.refusals n.refused c.args.ledger.now held before now node a) (sym missed.2) (
+      ((n.may_fail node).1, (refl, omega (arith, c.open_taken-slots.ensures.failed missed.1, c.put_back.ensures.others.later node))),
+      λ was is bytes told. (n.free node (Some c.args.ledger.now) (d.limit was) bytes).1,
+    )))
     why
 
 pub returns-in-Some-clause-held : goal.returns-in-Some-clause-held
@@ -77,9 +88,11 @@ returns-in-Some-clause-held g c =
     let now = g.R.Rack.count c.put_back.new.rack in
     let slots = c.open_taken-slots.result.items in
     λ k ge lt. ⊎_elim
-    (λ (below : k < c.args.first + length slots). each_back d n.disk_of n.opens n.fits n.refusals n.refused c.args.ledger.now held new before now c.args.first slots
+    (λ (below : k < c.args.first + length slots). each_back d n.disk_of n.opens n.fits n.refusals n.refused c.args.ledger.now held new before now
+    c.args.first slots
     c.open_taken-slots.ensures.came c.put_back.ensures.closed c.put_back.ensures.counted k ge below)
-    (λ (above : c.args.first + length slots ≤ k). back_same d (before k) (now k) (held k) (new k) (c.put_back.ensures.others.held k (inr above) ∙ c.open_taken-slots.ensures.untaken.held k above lt))
+    (λ (above : c.args.first + length slots ≤ k). back_same d (before k) (now k) (held k) (new k)
+    (c.put_back.ensures.others.held k (inr above) ∙ c.open_taken-slots.ensures.untaken.held k above lt))
     (cases_lt k (c.args.first + length slots))
 
 pub returns-in-Some-clause-back : goal.returns-in-Some-clause-back
@@ -87,7 +100,8 @@ returns-in-Some-clause-back g c = λ k ge lt.
     let end = c.args.first + length c.open_taken-slots.result.items in
     ⊎_elim
     (λ (below : k < end). c.put_back.ensures.back k ge below)
-    (λ (above : end ≤ k). c.put_back.ensures.others.takes k (inr above) (c.open_taken-slots.ensures.untaken.takes k above lt (c.requires.waiting k ge lt)))
+    (λ (above : end ≤ k). c.put_back.ensures.others.takes k (inr above)
+    (c.open_taken-slots.ensures.untaken.takes k above lt (c.requires.waiting k ge lt)))
     (cases_lt k end)
 
 pub returns-in-Err-clause-others : goal.returns-in-Err-clause-others

@@ -6,7 +6,8 @@ use Rattle.rack_ledgers.proofs.Beside.{all_wait, each_came, came_at, came_put}
 use Rattle.rack_ledgers.proofs.at_once.open_taken.Goals as goal
 
 pub open_list-requires-after_bounds : goal.open_list-requires-after_bounds
-open_list-requires-after_bounds g c κs within = all_wait g.R.Disk.Disk (g.R.Rack.held c.args.rack.now) (g.R.Rack.count c.args.rack.now) c.args.first c.take_disks-slots.result.items c.take_disks-slots.ensures.taken
+open_list-requires-after_bounds g c κs within = all_wait g.R.Disk.Disk (g.R.Rack.held c.args.rack.now) (g.R.Rack.count c.args.rack.now) c.args.first
+    c.take_disks-slots.result.items c.take_disks-slots.ensures.taken
 
 pub returns : goal.returns
 returns g c =
@@ -24,9 +25,13 @@ returns g c =
     let same = c.open_list.ensures.same in
     record {
       some = omega (arith, same, taken.some);
-      came = each_came C T A (λ k s t came is. came_at d n.disk_of n.opens n.fits n.refusals n.refused c.args.ledger.now held before k s t came is) c.args.first olds news same c.open_list.ensures.came taken.taken;
-      failed = subst (λ (k : ℕ). k < c.args.count → Rose (before (c.args.first + k)) (g.R.Rack.count c.take_disks-slots.new.rack (c.args.first + k))) (sym same) taken.failed;
-      out = each_came C P P (λ k s t came may. came_put d n.disk_of n.opens n.fits n.refusals n.refused c.args.ledger.now (g.R.Rack.can_put c.take_disks-slots.new.rack) k s t came may) c.args.first olds news same c.open_list.ensures.came taken.out;
-      untaken = subst (λ (k : ℕ). KeepsDisks g.R.Rack (c.args.first + k) (c.args.first + c.args.count) c.args.rack.now c.take_disks-slots.new.rack) (sym same) taken.untaken;
+      came = each_came C T A (λ k s t came is. came_at d n.disk_of n.opens n.fits n.refusals n.refused c.args.ledger.now held before k s t came is)
+          c.args.first olds news same c.open_list.ensures.came taken.taken;
+      failed = subst (λ (k : ℕ). k < c.args.count → Rose (before (c.args.first + k)) (g.R.Rack.count c.take_disks-slots.new.rack (c.args.first + k)))
+          (sym same) taken.failed;
+      out = each_came C P P (λ k s t came may. came_put d n.disk_of n.opens n.fits n.refusals n.refused c.args.ledger.now
+          (g.R.Rack.can_put c.take_disks-slots.new.rack) k s t came may) c.args.first olds news same c.open_list.ensures.came taken.out;
+      untaken = subst (λ (k : ℕ). KeepsDisks g.R.Rack (c.args.first + k) (c.args.first + c.args.count) c.args.rack.now c.take_disks-slots.new.rack)
+          (sym same) taken.untaken;
       others = taken.others;
     }

@@ -9,8 +9,10 @@ use Rattle.rack_ledgers.proofs.audited.verdict_of.Goals as goal
 
 pub merge-requires : goal.merge-requires
 merge-requires g c =
-    let same = lent_all c.args.nodes.now.logs.items c.args.nodes.now.shards.items c.new-all.result.items c.lend_logs.new.all.items c.lend_shards.new.all.items c.deref.result.now c.as_slice.result.now c.as_slice-2.result.now
-    c.new-all.ensures.items c.as_slice.ensures.value c.as_slice-2.ensures.value c.in_ok-lend_logs.ensures c.in_ok-lend_shards.ensures c.deref.ensures.value in
+    let same = lent_all c.args.nodes.now.logs.items c.args.nodes.now.shards.items c.new-all.result.items c.lend_logs.new.all.items
+    c.lend_shards.new.all.items c.deref.result.now c.as_slice.result.now c.as_slice-2.result.now
+    c.new-all.ensures.items c.as_slice.ensures.value c.as_slice-2.ensures.value c.in_ok-lend_logs.ensures c.in_ok-lend_shards.ensures
+    c.deref.ensures.value in
     omega (arith, lent_count c.args.nodes.now.logs.items c.args.nodes.now.shards.items c.deref.result.now same, c.requires.few)
 
 pub audit-requires-clause-places : goal.audit-requires-clause-places
@@ -23,13 +25,17 @@ pub returns : goal.returns
 returns g c =
     let logs = c.args.nodes.now.logs.items in
     let shards = c.args.nodes.now.shards.items in
-    let same = lent_all logs shards c.new-all.result.items c.lend_logs.new.all.items c.lend_shards.new.all.items c.deref.result.now c.as_slice.result.now c.as_slice-2.result.now
-    c.new-all.ensures.items c.as_slice.ensures.value c.as_slice-2.ensures.value c.in_ok-lend_logs.ensures c.in_ok-lend_shards.ensures c.deref.ensures.value in
+    let same = lent_all logs shards c.new-all.result.items c.lend_logs.new.all.items c.lend_shards.new.all.items c.deref.result.now
+    c.as_slice.result.now c.as_slice-2.result.now
+    c.new-all.ensures.items c.as_slice.ensures.value c.as_slice-2.ensures.value c.in_ok-lend_logs.ensures c.in_ok-lend_shards.ensures
+    c.deref.ensures.value in
     let slices : c.deref.result.now ≡ c.deref-2.result.now = c.deref.ensures.value ∙ sym c.deref-2.ensures.value in
     let first : AreMerged (listed_journals logs shards) (rows_at (read c.deref.result.now) c.in_ok-history.history) =
-    are_merged (read c.deref.result.now) (listed_journals logs shards) c.in_ok-history.history same (all_rise logs shards c.requires.logs c.requires.shards)
+    are_merged (read c.deref.result.now) (listed_journals logs shards) c.in_ok-history.history same
+    (all_rise logs shards c.requires.logs c.requires.shards)
     c.in_ok-history.ensures.journals c.in_ok-history.ensures.newest_first c.in_ok-history.ensures.ordered in
     let merged : AreMerged (listed_journals logs shards) (rows_at (read c.deref-2.result.now) c.as_slice-3.result.now) =
     subst (λ (l : List Place). AreMerged (listed_journals logs shards) (rows_at (read c.deref-2.result.now) l)) (sym c.as_slice-3.ensures)
     (subst (λ s. AreMerged (listed_journals logs shards) (rows_at (read s) c.in_ok-history.history)) slices first) in
-    has_verdict c.args.nodes.now.header.shape (read c.deref-2.result.now) (listed_journals logs shards) c.as_slice-3.result.now c.args.mint.now c.args.handed.now merged c.audit.result c.audit.ensures
+    has_verdict c.args.nodes.now.header.shape (read c.deref-2.result.now) (listed_journals logs shards) c.as_slice-3.result.now c.args.mint.now
+    c.args.handed.now merged c.audit.result c.audit.ensures

@@ -21,7 +21,10 @@ returns-clause-refusal g c = elim c.match-first_uncaused.branch [
     opened = c.in-Ok.ensures.opened.nodes;
     place = w.in-Ok-Some.place;
     told = w.fault-is;
-    uncaused = subst (λ (o : Option ℕ). MatchOption o (AreCaused c.in-Ok.nodes.header.shape (listed_journals c.in-Ok.nodes.logs.items c.in-Ok.nodes.shards.items)) (HasUncaused c.in-Ok.nodes.header.shape (listed_journals c.in-Ok.nodes.logs.items c.in-Ok.nodes.shards.items))) w.in-Ok-Some.field-0-is w.in-Ok-Some.ensures;
+    uncaused = subst (λ (o : Option ℕ). MatchOption o
+        (AreCaused c.in-Ok.nodes.header.shape (listed_journals c.in-Ok.nodes.logs.items c.in-Ok.nodes.shards.items))
+        (HasUncaused c.in-Ok.nodes.header.shape (listed_journals c.in-Ok.nodes.logs.items c.in-Ok.nodes.shards.items))) w.in-Ok-Some.field-0-is
+        w.in-Ok-Some.ensures;
   }))
   | in-Err-first_uncaused w ↦ inr (inr w.fault-is)
 ]
@@ -36,7 +39,8 @@ returns-clause-back g c =
     let led = c.in-Ok.ensures.opened in
     record {
       held = λ n. same_back g.R.Disk.Disk (g.R.Rack.count c.args.rack.now n) (g.R.Rack.count c.close_nodes.new.rack n) (held n) (now n)
-          (all_same g.R.Disk.Disk held (g.R.Rack.held c.open_nodes.new.rack) now c.in-Ok.nodes.header c.in-Ok.nodes.logs.items c.in-Ok.nodes.shards.items
+          (all_same g.R.Disk.Disk held (g.R.Rack.held c.open_nodes.new.rack) now c.in-Ok.nodes.header c.in-Ok.nodes.logs.items
+          c.in-Ok.nodes.shards.items
           led.nodes led.others_held c.close_nodes.ensures.closed_logs c.close_nodes.ensures.closed_shards c.close_nodes.ensures.others_held n);
       takes = c.close_nodes.ensures.back;
     }

@@ -18,7 +18,8 @@ close_all-requires-2-clause-out g c =
     let P = MayReturn (λ x. g.R.Disk.Disk.count x.disk) (g.R.Rack.can_put c.args.rack.now) in
     let Q = MayReturn (λ x. g.R.Disk.Disk.count x.disk) (g.R.Rack.can_put c.close_all.new.rack) in
     each_weaker P Q 0 c.args.nodes.logs.items
-    (λ k d ge lt may m le. c.close_all.ensures.others.puts k m (inl (omega (arith, lt, c.len-first.ensures, c.args.nodes.logs.ok))) (may m le)) c.requires.logs
+    (λ k d ge lt may m le. c.close_all.ensures.others.puts k m (inl (omega (arith, lt, c.len-first.ensures, c.args.nodes.logs.ok))) (may m le))
+    c.requires.logs
 
 pub returns-clause-closed_logs : goal.returns-clause-closed_logs
 returns-clause-closed_logs g c =
@@ -34,7 +35,8 @@ returns-clause-closed_shards g c n s is now told =
 
 pub returns-clause-others_held : goal.returns-clause-others_held
 returns-clause-others_held g c n past =
-    c.close_all-2.ensures.others.held n (inr (omega (arith, past))) ∙ c.close_all.ensures.others.held n (inr (omega (arith, past, c.len-first.ensures, c.args.nodes.logs.ok)))
+    c.close_all-2.ensures.others.held n (inr (omega (arith, past)))
+    ∙ c.close_all.ensures.others.held n (inr (omega (arith, past, c.len-first.ensures, c.args.nodes.logs.ok)))
 
 pub returns-clause-back : goal.returns-clause-back
 returns-clause-back g c n =
@@ -42,7 +44,8 @@ returns-clause-back g c n =
       | inl small ↦ c.close_all-2.ensures.back n (omega arith) (omega (arith, small))
       | inr large ↦ elim (cases_lt n (length c.args.nodes.logs.items + length c.args.nodes.shards.items)) [
         | inl inside ↦ c.close_all-2.ensures.others.takes n (inr (omega (arith, large)))
-            (c.close_all.ensures.back n (omega (arith, large, c.len-first.ensures, c.args.nodes.logs.ok)) (omega (arith, inside, c.len-first.ensures, c.args.nodes.logs.ok)))
+            (c.close_all.ensures.back n (omega (arith, large, c.len-first.ensures, c.args.nodes.logs.ok))
+            (omega (arith, inside, c.len-first.ensures, c.args.nodes.logs.ok)))
         | inr past ↦ c.close_all-2.ensures.others.takes n (inr (omega (arith, large)))
             (c.close_all.ensures.others.takes n (inr (omega (arith, past, c.len-first.ensures, c.args.nodes.logs.ok))) (c.requires.others n past))
       ]

@@ -12,13 +12,16 @@ pub returns-in-Ok-clause-refusal : goal.returns-in-Ok-clause-refusal
 returns-in-Ok-clause-refusal g c = λ bytes told genesis.
     let is = (c.in-Ok.ensures.opens bytes told).0 in
     let kind = is.kind in
-    told_foreign IsCoord c.args.node (option_copied c.args.ledger) (g.D.Disk.limit c.args.disk) bytes c.header.result.now c.in-Ok.shard.header c.foreign-answer.result c.header.ensures.header c.foreign-answer.ensures
-    (other_node IsCoord c.args.node (option_copied c.args.ledger) (g.D.Disk.limit c.args.disk) bytes IsShardHeader c.in-Ok.shard.header c.in-Ok.shard.journal is (omega (arith, c.in-Ok.ensures.room, c.in-Ok.ensures.limit))
+    told_foreign IsCoord c.args.node (option_copied c.args.ledger) (g.D.Disk.limit c.args.disk) bytes c.header.result.now c.in-Ok.shard.header
+    c.foreign-answer.result c.header.ensures.header c.foreign-answer.ensures
+    (other_node IsCoord c.args.node (option_copied c.args.ledger) (g.D.Disk.limit c.args.disk) bytes IsShardHeader c.in-Ok.shard.header
+    c.in-Ok.shard.journal is (omega (arith, c.in-Ok.ensures.room, c.in-Ok.ensures.limit))
     (inr (λ below. absurd (omega (arith, below, kind.0)))))
 
 pub returns-in-Err-clause-refusal : goal.returns-in-Err-clause-refusal
 returns-in-Err-clause-refusal g c = λ bytes told genesis.
     let refused = c.in-Err.ensures.refusal bytes told in
-    subst (λ (a : Answer). IsNoNode IsCoord c.args.node (option_copied c.args.ledger) (g.D.Disk.limit c.args.disk) bytes a) (sym c.answer_of.ensures.told)
+    subst (λ (a : Answer). IsNoNode IsCoord c.args.node (option_copied c.args.ledger) (g.D.Disk.limit c.args.disk) bytes a)
+    (sym c.answer_of.ensures.told)
     (node_refused IsCoord c.args.node (option_copied c.args.ledger) (g.D.Disk.limit c.args.disk) bytes IsShardHeader IsStart c.in-Err.fault
     (λ other. not_both_kinds bytes (subst (λ (f : NodeOpenFault). IsNoShard (g.D.Disk.limit c.args.disk) bytes f) other refused) genesis) refused)

@@ -13,13 +13,15 @@ returns-in-Err-clause-others g c = kept_but c.put.ensures.others c.put.ensures.o
 
 pub put-requires : goal.put-requires
 put-requires g c =
-    let same : c.into_disk.result ≡ c.args.lead.disk = c.into_disk.ensures ∙ ap (λ (l : NodeOf g.row.R-Disk.Denot). l.disk) c.in-Err.ensures.value_returned in
+    let same : c.into_disk.result ≡ c.args.lead.disk =
+    c.into_disk.ensures ∙ ap (λ (l : NodeOf g.row.R-Disk.Denot). l.disk) c.in-Err.ensures.value_returned in
     c.requires (g.R.Disk.Disk.count c.into_disk.result)
     (subst (λ (d : g.row.R-Disk.Denot). g.R.Disk.Disk.count c.args.lead.disk ≤ g.R.Disk.Disk.count d) (sym same) (omega arith))
 
 pub returns-in-Err-clause-closed : goal.returns-in-Err-clause-closed
 returns-in-Err-clause-closed g c =
-    let same : c.into_disk.result ≡ c.args.lead.disk = c.into_disk.ensures ∙ ap (λ (l : NodeOf g.row.R-Disk.Denot). l.disk) c.in-Err.ensures.value_returned in
+    let same : c.into_disk.result ≡ c.args.lead.disk =
+    c.into_disk.ensures ∙ ap (λ (l : NodeOf g.row.R-Disk.Denot). l.disk) c.in-Err.ensures.value_returned in
     of_told _ _ (subst (λ (d : g.row.R-Disk.Denot). IfSome (g.R.Rack.held c.put.new.self 0) (λ now. now ≡ d)) same c.put.ensures.disk)
 
 pub returns-in-Err-clause-back : goal.returns-in-Err-clause-back

@@ -15,7 +15,8 @@ returns-in-Some-clause-refusal g c =
     inr (inl (record {
       lead = c.in-Ok.lead;
       first = ap (λ (k : Header). k.node) c.in-Ok.ensures.fits.asked;
-      lead_at = lead_at g.R.Disk.Disk IsCoord (g.R.Rack.held c.args.rack.now) c.in-Ok.lead.header c.in-Ok.lead refl c.in-Ok.ensures.fits c.in-Ok.ensures.opened;
+      lead_at = lead_at g.R.Disk.Disk IsCoord (g.R.Rack.held c.args.rack.now) c.in-Ok.lead.header c.in-Ok.lead refl c.in-Ok.ensures.fits
+          c.in-Ok.ensures.opened;
       other = subst (λ (k : Header). IsOtherMint (option_copied c.args.id) k c.in-Some.fault) c.header.ensures.header c.in-Some.ensures;
     }))
 
@@ -26,7 +27,8 @@ pub returns-in-None-clause-others : goal.returns-in-None-clause-others
 returns-in-None-clause-others g c = c.in-Ok.ensures.others
 
 pub returns-in-Some-clause-others : goal.returns-in-Some-clause-others
-returns-in-Some-clause-others g c = kept_then c.in-Ok.ensures.others (kept_but c.put.ensures.others c.put.ensures.others_in c.put.ensures.others_out c.put.ensures.later)
+returns-in-Some-clause-others g c = kept_then c.in-Ok.ensures.others
+    (kept_but c.put.ensures.others c.put.ensures.others_in c.put.ensures.others_out c.put.ensures.later)
 
 pub other_mint-requires : goal.other_mint-requires
 other_mint-requires g c = ap (λ (k : Header). k.node) c.header.ensures.header ∙ ap (λ (k : Header). k.node) c.in-Ok.ensures.fits.asked
@@ -68,9 +70,11 @@ returns-in-Some-clause-kind g c = other_mint_kind (option_copied c.args.id) c.he
 
 pub returns-in-Some-clause-held : goal.returns-in-Some-clause-held
 returns-in-Some-clause-held g c =
-    node_back g.R.Disk.Disk IsCoord (g.R.Rack.held c.args.rack.now) (g.R.Rack.held c.put.new.self) (g.R.Rack.count c.args.rack.now 0) (g.R.Rack.count c.put.new.self 0) c.in-Ok.lead.header 0 c.in-Ok.lead
+    node_back g.R.Disk.Disk IsCoord (g.R.Rack.held c.args.rack.now) (g.R.Rack.held c.put.new.self) (g.R.Rack.count c.args.rack.now 0)
+    (g.R.Rack.count c.put.new.self 0) c.in-Ok.lead.header 0 c.in-Ok.lead
     (lead_at g.R.Disk.Disk IsCoord (g.R.Rack.held c.args.rack.now) c.in-Ok.lead.header c.in-Ok.lead refl c.in-Ok.ensures.fits c.in-Ok.ensures.opened)
-    (of_told _ _ (subst (λ (d : g.row.R-Disk.Denot). IfSome (g.R.Rack.held c.put.new.self 0) (λ now. now ≡ d)) c.into_disk.ensures c.put.ensures.disk))
+    (of_told _ _ (subst (λ (d : g.row.R-Disk.Denot). IfSome (g.R.Rack.held c.put.new.self 0) (λ now. now ≡ d)) c.into_disk.ensures
+    c.put.ensures.disk))
 
 pub returns-in-Some-clause-back : goal.returns-in-Some-clause-back
 returns-in-Some-clause-back g c = c.put.ensures.back

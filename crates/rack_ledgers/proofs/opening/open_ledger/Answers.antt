@@ -20,7 +20,8 @@ close_all-requires-clause-out g c =
     let P = MayReturn (λ x. g.R.Disk.Disk.count x.disk) (g.R.Rack.can_put c.open_logs.new.rack) in
     let Q = MayReturn (λ x. g.R.Disk.Disk.count x.disk) (g.R.Rack.can_put c.open_at_once.new.rack) in
     each_weaker P Q 0 c.in-Ok.opened.1.items
-    (λ k d ge lt may m le. c.open_at_once.ensures.others.puts k m (inl (omega (arith, lt, c.in-Ok.ensures.opened.coordinators, c.coordinators-first.ensures.value))) (may m le)) c.in-Ok.ensures.opened.logs
+    (λ k d ge lt may m le. c.open_at_once.ensures.others.puts k m
+    (inl (omega (arith, lt, c.in-Ok.ensures.opened.coordinators, c.coordinators-first.ensures.value))) (may m le)) c.in-Ok.ensures.opened.logs
 
 pub returns-in-Ok-open_at_once-clause-later : goal.returns-in-Ok-open_at_once-clause-later
 returns-in-Ok-open_at_once-clause-later g c = λ n. omega (arith, c.open_logs.ensures.later n, c.open_at_once.ensures.others.later n)
@@ -28,11 +29,15 @@ returns-in-Ok-open_at_once-clause-later g c = λ n. omega (arith, c.open_logs.en
 pub returns-in-Err-open_at_once-clause-refusal : goal.returns-in-Err-open_at_once-clause-refusal
 returns-in-Err-open_at_once-clause-refusal g c =
     inr (lacks_shard g.R.Disk.Disk (g.R.Rack.held c.args.rack.now) (g.R.Rack.held c.open_logs.new.rack)
-    (g.R.Rack.count c.args.rack.now) (g.R.Rack.count c.open_logs.new.rack) (g.R.Rack.count c.open_at_once.new.rack) (g.R.Rack.count c.close_all.new.rack)
-    c.in-Ok.opened.0 c.in-Ok.opened.1.items (option_copied c.args.id) (c.coordinators-first.result + length c.new.result.items) (c.coordinators-first.result + c.shards-count.result) c.in-Err-open_at_once.fault
-    (omega (arith, ap length c.new.ensures.items, c.coordinators-first.ensures.value)) (omega (arith, c.coordinators-first.ensures.value, c.shards-count.ensures.value))
+    (g.R.Rack.count c.args.rack.now) (g.R.Rack.count c.open_logs.new.rack) (g.R.Rack.count c.open_at_once.new.rack)
+    (g.R.Rack.count c.close_all.new.rack)
+    c.in-Ok.opened.0 c.in-Ok.opened.1.items (option_copied c.args.id) (c.coordinators-first.result + length c.new.result.items)
+    (c.coordinators-first.result + c.shards-count.result) c.in-Err-open_at_once.fault
+    (omega (arith, ap length c.new.ensures.items, c.coordinators-first.ensures.value))
+    (omega (arith, c.coordinators-first.ensures.value, c.shards-count.ensures.value))
     c.in-Ok.ensures.opened.others_held (λ n. c.in-Ok.ensures.later n) (λ n. c.close_all.ensures.others.later n)
-    c.in-Ok.ensures.opened.first c.in-Ok.ensures.opened.limits c.in-Ok.ensures.minted c.in-Ok.ensures.opened.coordinators c.in-Ok.ensures.opened.logs_at
+    c.in-Ok.ensures.opened.first c.in-Ok.ensures.opened.limits c.in-Ok.ensures.minted c.in-Ok.ensures.opened.coordinators
+    c.in-Ok.ensures.opened.logs_at
     c.in-Err-open_at_once.ensures.refusal)
 
 pub returns-in-Err-clause-refusal : goal.returns-in-Err-clause-refusal
@@ -57,7 +62,8 @@ returns-in-Ok-open_at_once-clause-opened g c =
     let could = MayReturn (λ x. g.R.Disk.Disk.count x.disk) (g.R.Rack.can_put c.open_logs.new.rack) in
     let can = MayReturn (λ x. g.R.Disk.Disk.count x.disk) (g.R.Rack.can_put c.open_at_once.new.rack) in
     let P = OpensNode g.R.Disk.Disk IsShardHeader mid between h in
-    let all : EachFrom P c.coordinators-first.result shards = closed_whole P c.coordinators-first.result c.new.result.items shards c.new.ensures.items c.in-Ok-open_at_once.ensures.opened in
+    let all : EachFrom P c.coordinators-first.result shards =
+    closed_whole P c.coordinators-first.result c.new.result.items shards c.new.ensures.items c.in-Ok-open_at_once.ensures.opened in
     let from : EachFrom P h.shape.coordinators shards = subst (λ (k : ℕ). EachFrom P k shards) value all in
     let shards_are : length shards ≡ h.shape.shards = c.in-Ok-open_at_once.ensures.all ∙ c.shards-count.ensures.value in
     record {
@@ -71,12 +77,14 @@ returns-in-Ok-open_at_once-clause-opened g c =
       };
       logs_since = led.since;
       shards_since = nodes_since g.R.Disk.Disk IsShardHeader mid before between h h.shape.coordinators shards c.in-Ok.ensures.later from;
-      others_held = λ n ge. others.held n (inr (omega (arith, ge, c.in-Ok-open_at_once.ensures.all, count, value))) ∙ led.others_held n (omega (arith, ge, count));
+      others_held = λ n ge. others.held n (inr (omega (arith, ge, c.in-Ok-open_at_once.ensures.all, count, value)))
+          ∙ led.others_held n (omega (arith, ge, count));
       may_close = record {
         few = omega (arith, led.few, count, shards_are);
         logs = each_weaker could can 0 logs (λ k d ge lt may m le. others.puts k m (inl (omega (arith, lt, count, value))) (may m le)) led.logs;
         shards = subst (λ (k : ℕ). EachFrom can k shards) (value ∙ sym count) c.in-Ok-open_at_once.ensures.out;
-        others = λ n ge. others.takes n (inr (omega (arith, ge, c.in-Ok-open_at_once.ensures.all, count, value))) (led.others_in n (omega (arith, ge, count)));
+        others = λ n ge. others.takes n (inr (omega (arith, ge, c.in-Ok-open_at_once.ensures.all, count, value)))
+            (led.others_in n (omega (arith, ge, count)));
       };
     }
 
@@ -95,7 +103,8 @@ returns-in-Err-open_at_once-clause-back g c =
     let put = c.close_all.ensures.others in
     let others = c.in-Err-open_at_once.ensures.others in
     record {
-      held = back_parts g.R.Disk.Disk before after (g.R.Rack.count c.open_logs.new.rack) (g.R.Rack.count c.open_at_once.new.rack) was (g.R.Rack.held c.open_logs.new.rack) is
+      held = back_parts g.R.Disk.Disk before after (g.R.Rack.count c.open_logs.new.rack) (g.R.Rack.count c.open_at_once.new.rack) was
+          (g.R.Rack.held c.open_logs.new.rack) is
           c.in-Ok.opened.0.shape.coordinators end
           c.in-Ok.ensures.later put.later
           led.others_held

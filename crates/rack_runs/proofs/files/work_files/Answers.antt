@@ -19,19 +19,24 @@ returns-then-is_empty g c =
       quiet = λ was. was;
       leaves = none_leave verdicts c.args.files.now c.args.ledger.header.shape M (ledger_flights c.args.ledger)
           (HaveFailed (ledger_opened c.args.ledger) (ledger_faults c.args.ledger)) c.requires.idle;
-      well = none_end verdicts c.args.files.now c.args.ledger.header.shape M _ (none_of c.args.files.now (eqb-true (length c.args.files.now) 0 (sym c.is_empty.ensures ∙ c.if-is_empty.true))) c.new.ensures.items c.requires.idle;
+      well = none_end verdicts c.args.files.now c.args.ledger.header.shape M _
+          (none_of c.args.files.now (eqb-true (length c.args.files.now) 0 (sym c.is_empty.ensures ∙ c.if-is_empty.true))) c.new.ensures.items
+          c.requires.idle;
       badly = tt;
     }
 
 pub returns : goal.returns
 returns g c =
-    files_worked g.D.Disk (g.V.Verifier.verdict_of c.args.verifier.now) c.args.files.now c.args.ledger c.run_files-ledger.result.ledger c.run_files-ledger.result.came
+    files_worked g.D.Disk (g.V.Verifier.verdict_of c.args.verifier.now) c.args.files.now c.args.ledger c.run_files-ledger.result.ledger
+    c.run_files-ledger.result.came
     (some_of (length c.args.files.now) (sym c.is_empty.ensures ∙ c.if-is_empty.false))
-    (subst (λ l. Stretch (files_deed (g.V.Verifier.verdict_of c.args.verifier.now) c.args.files.now) (ledger_sight g.D.Disk l) (ledger_sight g.D.Disk c.run_files-ledger.result.ledger) c.run_files-ledger.result.came)
+    (subst (λ l. Stretch (files_deed (g.V.Verifier.verdict_of c.args.verifier.now) c.args.files.now) (ledger_sight g.D.Disk l)
+    (ledger_sight g.D.Disk c.run_files-ledger.result.ledger) c.run_files-ledger.result.came)
     c.watched-marked.ensures c.run_files-ledger.ensures)
 
 pub run_files-ledger-requires-clause-idle : goal.run_files-ledger-requires-clause-idle
-run_files-ledger-requires-clause-idle g c κs k = subst (λ l. AreIdle l.header.shape (ledger_journals l)) (sym c.watched-marked.ensures) c.requires.idle
+run_files-ledger-requires-clause-idle g c κs k = subst (λ l. AreIdle l.header.shape (ledger_journals l)) (sym c.watched-marked.ensures)
+    c.requires.idle
 
 pub run_files-ledger-requires-clause-checked : goal.run_files-ledger-requires-clause-checked
 run_files-ledger-requires-clause-checked g c κs k = subst (λ l. IsChecked l) (sym c.watched-marked.ensures) c.requires.checked

@@ -7,7 +7,8 @@ shards-init g c = refl
 
 pub shards-preserved : goal.shards-preserved
 shards-preserved g c =
-    count_next c.args.shards.now c.shards.shard-index c.shards.unspent c.unspent_len.result c.in-Some.sum c.shard-item.result c.shards-test.true c.shard-item.is c.shards.invariant c.unspent_len.ensures c.in-Some.ensures.1
+    count_next c.args.shards.now c.shards.shard-index c.shards.unspent c.unspent_len.result c.in-Some.sum c.shard-item.result c.shards-test.true
+    c.shard-item.is c.shards.invariant c.unspent_len.ensures c.in-Some.ensures.1
 
 pub returns : goal.returns
 returns g c = count_whole c.args.shards.now c.shards.shard-index c.shards.unspent c.shards-test.false c.shards.invariant

@@ -14,10 +14,12 @@ use Rattle.rack_runs.proofs.Wanted.{piece_fits}
 use Rattle.rack_runs.proofs.racks.run_on.Goals as goal
 
 pub begin_on-requires-clause-fit : goal.begin_on-requires-clause-fit
-begin_on-requires-clause-fit g c κs within K E X lane txs piece = piece_fits K (g.V.Verifier.verdict_of c.args.verifier.now) c.args.files.now E X lane txs c.requires.short piece
+begin_on-requires-clause-fit g c κs within K E X lane txs piece =
+    piece_fits K (g.V.Verifier.verdict_of c.args.verifier.now) c.args.files.now E X lane txs c.requires.short piece
 
 pub end_on-requires-clause-fit : goal.end_on-requires-clause-fit
-end_on-requires-clause-fit g c K E X lane txs piece = piece_fits K (g.V.Verifier.verdict_of c.args.verifier.now) c.args.files.now E X lane txs c.requires.short piece
+end_on-requires-clause-fit g c K E X lane txs piece =
+    piece_fits K (g.V.Verifier.verdict_of c.args.verifier.now) c.args.files.now E X lane txs c.requires.short piece
 
 pub work_files-ledger-requires-clause-idle : goal.work_files-ledger-requires-clause-idle
 work_files-ledger-requires-clause-idle g c κs lives =
@@ -30,67 +32,114 @@ work_files-ledger-requires-clause-checked g c κs lives = c.in-Ok.ensures.begun.
 pub end_on-requires-clause-come : goal.end_on-requires-clause-come
 end_on-requires-clause-come g c =
     let begun = c.in-Ok.ensures.begun in
-    let has : HasOpenedAndRun g.R.Disk.Disk (files_deed (g.V.Verifier.verdict_of c.args.verifier.now) c.args.files.now) begun.0 (g.R.Rack.held c.begin_on.new.rack) (g.R.Rack.can_put c.begin_on.new.rack) (g.R.Rack.can_take c.begin_on.new.rack) c.work_files-ledger.result.ledger c.in-Ok.begun.resumed.items c.work_files-ledger.result.came = record {
+    let has : HasOpenedAndRun g.R.Disk.Disk (files_deed (g.V.Verifier.verdict_of c.args.verifier.now) c.args.files.now) begun.0
+    (g.R.Rack.held c.begin_on.new.rack) (g.R.Rack.can_put c.begin_on.new.rack) (g.R.Rack.can_take c.begin_on.new.rack)
+    c.work_files-ledger.result.ledger c.in-Ok.begun.resumed.items c.work_files-ledger.result.came = record {
       begun = begun.2;
-      ran = worked_run g.R.Disk.Disk (files_deed (g.V.Verifier.verdict_of c.args.verifier.now) c.args.files.now) (entry_ledger begun.0) c.in-Ok.begun.ledger c.work_files-ledger.result.ledger c.in-Ok.begun.resumed (Ok c.in-Ok.begun.resumed) c.work_files-ledger.result.came refl begun.3 c.work_files-ledger.ensures;
+      ran = worked_run g.R.Disk.Disk (files_deed (g.V.Verifier.verdict_of c.args.verifier.now) c.args.files.now) (entry_ledger begun.0)
+          c.in-Ok.begun.ledger c.work_files-ledger.result.ledger c.in-Ok.begun.resumed (Ok c.in-Ok.begun.resumed) c.work_files-ledger.result.came
+          refl begun.3 c.work_files-ledger.ensures;
     } in
     (begun.0, has)
 
 pub returns-in-Err-clause-stopped : goal.returns-in-Err-clause-stopped
 returns-in-Err-clause-stopped g c =
-    ⊎_elim (λ turns. ⊎_elim (λ refused. inl refused) (λ cut. inr (fault_as g.R.Disk.Disk (disks_in g.R.Rack c.args.rack.now) (disks_in g.R.Rack c.begin_on.new.rack)
-    (PieceNext (g.V.Verifier.verdict_of c.args.verifier.now) c.args.files.now) (EndsWork (files_deed (g.V.Verifier.verdict_of c.args.verifier.now) c.args.files.now)) (EndsRun (g.V.Verifier.verdict_of c.args.verifier.now) c.args.files.now) (BeginsWork (files_deed (g.V.Verifier.verdict_of c.args.verifier.now) c.args.files.now)) (PiecesPrepared (g.V.Verifier.verdict_of c.args.verifier.now) c.args.files.now)
-    (CameThrough (files_deed (g.V.Verifier.verdict_of c.args.verifier.now) c.args.files.now)) (AllRan (g.V.Verifier.verdict_of c.args.verifier.now) c.args.files.now) c.args.files.now (ends_run (g.V.Verifier.verdict_of c.args.verifier.now) c.args.files.now) (begun_run (g.V.Verifier.verdict_of c.args.verifier.now) c.args.files.now)
-    (through_run (g.V.Verifier.verdict_of c.args.verifier.now) c.args.files.now) c.in-Err.fault cut)) turns) (λ tested. absurd tested.refused) c.in-Err.ensures.stopped
+    ⊎_elim (λ turns. ⊎_elim (λ refused. inl refused)
+    (λ cut. inr (fault_as g.R.Disk.Disk (disks_in g.R.Rack c.args.rack.now) (disks_in g.R.Rack c.begin_on.new.rack)
+    (PieceNext (g.V.Verifier.verdict_of c.args.verifier.now) c.args.files.now)
+    (EndsWork (files_deed (g.V.Verifier.verdict_of c.args.verifier.now) c.args.files.now))
+    (EndsRun (g.V.Verifier.verdict_of c.args.verifier.now) c.args.files.now)
+    (BeginsWork (files_deed (g.V.Verifier.verdict_of c.args.verifier.now) c.args.files.now))
+    (PiecesPrepared (g.V.Verifier.verdict_of c.args.verifier.now) c.args.files.now)
+    (CameThrough (files_deed (g.V.Verifier.verdict_of c.args.verifier.now) c.args.files.now))
+    (AllRan (g.V.Verifier.verdict_of c.args.verifier.now) c.args.files.now) c.args.files.now
+    (ends_run (g.V.Verifier.verdict_of c.args.verifier.now) c.args.files.now)
+    (begun_run (g.V.Verifier.verdict_of c.args.verifier.now) c.args.files.now)
+    (through_run (g.V.Verifier.verdict_of c.args.verifier.now) c.args.files.now) c.in-Err.fault cut)) turns) (λ tested. absurd tested.refused)
+    c.in-Err.ensures.stopped
 
 pub returns-in-Ok-end_on-clause-caused : goal.returns-in-Ok-end_on-clause-caused
 returns-in-Ok-end_on-clause-caused g c =
     let begun = c.in-Ok.ensures.begun in
-    let has : HasOpenedAndRun g.R.Disk.Disk (files_deed (g.V.Verifier.verdict_of c.args.verifier.now) c.args.files.now) begun.0 (g.R.Rack.held c.begin_on.new.rack) (g.R.Rack.can_put c.begin_on.new.rack) (g.R.Rack.can_take c.begin_on.new.rack) c.work_files-ledger.result.ledger c.in-Ok.begun.resumed.items c.work_files-ledger.result.came = record {
+    let has : HasOpenedAndRun g.R.Disk.Disk (files_deed (g.V.Verifier.verdict_of c.args.verifier.now) c.args.files.now) begun.0
+    (g.R.Rack.held c.begin_on.new.rack) (g.R.Rack.can_put c.begin_on.new.rack) (g.R.Rack.can_take c.begin_on.new.rack)
+    c.work_files-ledger.result.ledger c.in-Ok.begun.resumed.items c.work_files-ledger.result.came = record {
       begun = begun.2;
-      ran = worked_run g.R.Disk.Disk (files_deed (g.V.Verifier.verdict_of c.args.verifier.now) c.args.files.now) (entry_ledger begun.0) c.in-Ok.begun.ledger c.work_files-ledger.result.ledger c.in-Ok.begun.resumed (Ok c.in-Ok.begun.resumed) c.work_files-ledger.result.came refl begun.3 c.work_files-ledger.ensures;
+      ran = worked_run g.R.Disk.Disk (files_deed (g.V.Verifier.verdict_of c.args.verifier.now) c.args.files.now) (entry_ledger begun.0)
+          c.in-Ok.begun.ledger c.work_files-ledger.result.ledger c.in-Ok.begun.resumed (Ok c.in-Ok.begun.resumed) c.work_files-ledger.result.came
+          refl begun.3 c.work_files-ledger.ensures;
     } in
-    let done : HasDoneWork g.R.Disk.Disk (disks_in g.R.Rack c.args.rack.now) (disks_in g.R.Rack c.end_on.new.rack) (files_deed (g.V.Verifier.verdict_of c.args.verifier.now) c.args.files.now) c.end_on.result =
-    subst (λ d. HasDoneWork g.R.Disk.Disk d (disks_in g.R.Rack c.end_on.new.rack) (files_deed (g.V.Verifier.verdict_of c.args.verifier.now) c.args.files.now) c.end_on.result) begun.1 (c.end_on.ensures.done begun.0 has) in
+    let done : HasDoneWork g.R.Disk.Disk (disks_in g.R.Rack c.args.rack.now) (disks_in g.R.Rack c.end_on.new.rack)
+    (files_deed (g.V.Verifier.verdict_of c.args.verifier.now) c.args.files.now) c.end_on.result =
+    subst (λ d. HasDoneWork g.R.Disk.Disk d (disks_in g.R.Rack c.end_on.new.rack)
+    (files_deed (g.V.Verifier.verdict_of c.args.verifier.now) c.args.files.now) c.end_on.result) begun.1 (c.end_on.ensures.done begun.0 has) in
     when_whole c.end_on.result _ c.in-Ok-end_on.is done.caused
 
 pub returns-in-Ok-end_on-clause-ran : goal.returns-in-Ok-end_on-clause-ran
 returns-in-Ok-end_on-clause-ran g c =
     let begun = c.in-Ok.ensures.begun in
-    let has : HasOpenedAndRun g.R.Disk.Disk (files_deed (g.V.Verifier.verdict_of c.args.verifier.now) c.args.files.now) begun.0 (g.R.Rack.held c.begin_on.new.rack) (g.R.Rack.can_put c.begin_on.new.rack) (g.R.Rack.can_take c.begin_on.new.rack) c.work_files-ledger.result.ledger c.in-Ok.begun.resumed.items c.work_files-ledger.result.came = record {
+    let has : HasOpenedAndRun g.R.Disk.Disk (files_deed (g.V.Verifier.verdict_of c.args.verifier.now) c.args.files.now) begun.0
+    (g.R.Rack.held c.begin_on.new.rack) (g.R.Rack.can_put c.begin_on.new.rack) (g.R.Rack.can_take c.begin_on.new.rack)
+    c.work_files-ledger.result.ledger c.in-Ok.begun.resumed.items c.work_files-ledger.result.came = record {
       begun = begun.2;
-      ran = worked_run g.R.Disk.Disk (files_deed (g.V.Verifier.verdict_of c.args.verifier.now) c.args.files.now) (entry_ledger begun.0) c.in-Ok.begun.ledger c.work_files-ledger.result.ledger c.in-Ok.begun.resumed (Ok c.in-Ok.begun.resumed) c.work_files-ledger.result.came refl begun.3 c.work_files-ledger.ensures;
+      ran = worked_run g.R.Disk.Disk (files_deed (g.V.Verifier.verdict_of c.args.verifier.now) c.args.files.now) (entry_ledger begun.0)
+          c.in-Ok.begun.ledger c.work_files-ledger.result.ledger c.in-Ok.begun.resumed (Ok c.in-Ok.begun.resumed) c.work_files-ledger.result.came
+          refl begun.3 c.work_files-ledger.ensures;
     } in
-    let done : HasDoneWork g.R.Disk.Disk (disks_in g.R.Rack c.args.rack.now) (disks_in g.R.Rack c.end_on.new.rack) (files_deed (g.V.Verifier.verdict_of c.args.verifier.now) c.args.files.now) c.end_on.result =
-    subst (λ d. HasDoneWork g.R.Disk.Disk d (disks_in g.R.Rack c.end_on.new.rack) (files_deed (g.V.Verifier.verdict_of c.args.verifier.now) c.args.files.now) c.end_on.result) begun.1 (c.end_on.ensures.done begun.0 has) in
-    λ K mint submissions E within shows kept. (told_run g.R.Disk.Disk (g.R.Rack.held c.end_on.new.rack) (g.V.Verifier.verdict_of c.args.verifier.now) c.args.files.now c.in-Ok-end_on.told c.ran_of.result c.ran_of.ensures K mint submissions E kept
+    let done : HasDoneWork g.R.Disk.Disk (disks_in g.R.Rack c.args.rack.now) (disks_in g.R.Rack c.end_on.new.rack)
+    (files_deed (g.V.Verifier.verdict_of c.args.verifier.now) c.args.files.now) c.end_on.result =
+    subst (λ d. HasDoneWork g.R.Disk.Disk d (disks_in g.R.Rack c.end_on.new.rack)
+    (files_deed (g.V.Verifier.verdict_of c.args.verifier.now) c.args.files.now) c.end_on.result) begun.1 (c.end_on.ensures.done begun.0 has) in
+    λ K mint submissions E within shows kept. (told_run g.R.Disk.Disk (g.R.Rack.held c.end_on.new.rack) (g.V.Verifier.verdict_of c.args.verifier.now)
+    c.args.files.now c.in-Ok-end_on.told c.ran_of.result c.ran_of.ensures K mint submissions E kept
     (of_whole _ c.end_on.result _ c.in-Ok-end_on.is done.ended K mint submissions E within shows kept)).run
 
 pub returns-in-Ok-end_on-clause-told : goal.returns-in-Ok-end_on-clause-told
 returns-in-Ok-end_on-clause-told g c =
     let begun = c.in-Ok.ensures.begun in
-    let has : HasOpenedAndRun g.R.Disk.Disk (files_deed (g.V.Verifier.verdict_of c.args.verifier.now) c.args.files.now) begun.0 (g.R.Rack.held c.begin_on.new.rack) (g.R.Rack.can_put c.begin_on.new.rack) (g.R.Rack.can_take c.begin_on.new.rack) c.work_files-ledger.result.ledger c.in-Ok.begun.resumed.items c.work_files-ledger.result.came = record {
+    let has : HasOpenedAndRun g.R.Disk.Disk (files_deed (g.V.Verifier.verdict_of c.args.verifier.now) c.args.files.now) begun.0
+    (g.R.Rack.held c.begin_on.new.rack) (g.R.Rack.can_put c.begin_on.new.rack) (g.R.Rack.can_take c.begin_on.new.rack)
+    c.work_files-ledger.result.ledger c.in-Ok.begun.resumed.items c.work_files-ledger.result.came = record {
       begun = begun.2;
-      ran = worked_run g.R.Disk.Disk (files_deed (g.V.Verifier.verdict_of c.args.verifier.now) c.args.files.now) (entry_ledger begun.0) c.in-Ok.begun.ledger c.work_files-ledger.result.ledger c.in-Ok.begun.resumed (Ok c.in-Ok.begun.resumed) c.work_files-ledger.result.came refl begun.3 c.work_files-ledger.ensures;
+      ran = worked_run g.R.Disk.Disk (files_deed (g.V.Verifier.verdict_of c.args.verifier.now) c.args.files.now) (entry_ledger begun.0)
+          c.in-Ok.begun.ledger c.work_files-ledger.result.ledger c.in-Ok.begun.resumed (Ok c.in-Ok.begun.resumed) c.work_files-ledger.result.came
+          refl begun.3 c.work_files-ledger.ensures;
     } in
-    let done : HasDoneWork g.R.Disk.Disk (disks_in g.R.Rack c.args.rack.now) (disks_in g.R.Rack c.end_on.new.rack) (files_deed (g.V.Verifier.verdict_of c.args.verifier.now) c.args.files.now) c.end_on.result =
-    subst (λ d. HasDoneWork g.R.Disk.Disk d (disks_in g.R.Rack c.end_on.new.rack) (files_deed (g.V.Verifier.verdict_of c.args.verifier.now) c.args.files.now) c.end_on.result) begun.1 (c.end_on.ensures.done begun.0 has) in
-    λ K mint submissions E within shows kept. told_run g.R.Disk.Disk (g.R.Rack.held c.end_on.new.rack) (g.V.Verifier.verdict_of c.args.verifier.now) c.args.files.now c.in-Ok-end_on.told c.ran_of.result c.ran_of.ensures K mint submissions E kept
+    let done : HasDoneWork g.R.Disk.Disk (disks_in g.R.Rack c.args.rack.now) (disks_in g.R.Rack c.end_on.new.rack)
+    (files_deed (g.V.Verifier.verdict_of c.args.verifier.now) c.args.files.now) c.end_on.result =
+    subst (λ d. HasDoneWork g.R.Disk.Disk d (disks_in g.R.Rack c.end_on.new.rack)
+    (files_deed (g.V.Verifier.verdict_of c.args.verifier.now) c.args.files.now) c.end_on.result) begun.1 (c.end_on.ensures.done begun.0 has) in
+    λ K mint submissions E within shows kept. told_run g.R.Disk.Disk (g.R.Rack.held c.end_on.new.rack) (g.V.Verifier.verdict_of c.args.verifier.now)
+    c.args.files.now c.in-Ok-end_on.told c.ran_of.result c.ran_of.ensures K mint submissions E kept
     (of_whole _ c.end_on.result _ c.in-Ok-end_on.is done.ended K mint submissions E within shows kept)
 
 pub returns-in-Err-end_on-clause-stopped : goal.returns-in-Err-end_on-clause-stopped
 returns-in-Err-end_on-clause-stopped g c =
     let begun = c.in-Ok.ensures.begun in
-    let has : HasOpenedAndRun g.R.Disk.Disk (files_deed (g.V.Verifier.verdict_of c.args.verifier.now) c.args.files.now) begun.0 (g.R.Rack.held c.begin_on.new.rack) (g.R.Rack.can_put c.begin_on.new.rack) (g.R.Rack.can_take c.begin_on.new.rack) c.work_files-ledger.result.ledger c.in-Ok.begun.resumed.items c.work_files-ledger.result.came = record {
+    let has : HasOpenedAndRun g.R.Disk.Disk (files_deed (g.V.Verifier.verdict_of c.args.verifier.now) c.args.files.now) begun.0
+    (g.R.Rack.held c.begin_on.new.rack) (g.R.Rack.can_put c.begin_on.new.rack) (g.R.Rack.can_take c.begin_on.new.rack)
+    c.work_files-ledger.result.ledger c.in-Ok.begun.resumed.items c.work_files-ledger.result.came = record {
       begun = begun.2;
-      ran = worked_run g.R.Disk.Disk (files_deed (g.V.Verifier.verdict_of c.args.verifier.now) c.args.files.now) (entry_ledger begun.0) c.in-Ok.begun.ledger c.work_files-ledger.result.ledger c.in-Ok.begun.resumed (Ok c.in-Ok.begun.resumed) c.work_files-ledger.result.came refl begun.3 c.work_files-ledger.ensures;
+      ran = worked_run g.R.Disk.Disk (files_deed (g.V.Verifier.verdict_of c.args.verifier.now) c.args.files.now) (entry_ledger begun.0)
+          c.in-Ok.begun.ledger c.work_files-ledger.result.ledger c.in-Ok.begun.resumed (Ok c.in-Ok.begun.resumed) c.work_files-ledger.result.came
+          refl begun.3 c.work_files-ledger.ensures;
     } in
-    let done : HasDoneWork g.R.Disk.Disk (disks_in g.R.Rack c.args.rack.now) (disks_in g.R.Rack c.end_on.new.rack) (files_deed (g.V.Verifier.verdict_of c.args.verifier.now) c.args.files.now) c.end_on.result =
-    subst (λ d. HasDoneWork g.R.Disk.Disk d (disks_in g.R.Rack c.end_on.new.rack) (files_deed (g.V.Verifier.verdict_of c.args.verifier.now) c.args.files.now) c.end_on.result) begun.1 (c.end_on.ensures.done begun.0 has) in
+    let done : HasDoneWork g.R.Disk.Disk (disks_in g.R.Rack c.args.rack.now) (disks_in g.R.Rack c.end_on.new.rack)
+    (files_deed (g.V.Verifier.verdict_of c.args.verifier.now) c.args.files.now) c.end_on.result =
+    subst (λ d. HasDoneWork g.R.Disk.Disk d (disks_in g.R.Rack c.end_on.new.rack)
+    (files_deed (g.V.Verifier.verdict_of c.args.verifier.now) c.args.files.now) c.end_on.result) begun.1 (c.end_on.ensures.done begun.0 has) in
     ⊎_elim (λ refused. inl refused) (λ cut. inr (fault_as g.R.Disk.Disk (disks_in g.R.Rack c.args.rack.now) (disks_in g.R.Rack c.end_on.new.rack)
-    (PieceNext (g.V.Verifier.verdict_of c.args.verifier.now) c.args.files.now) (EndsWork (files_deed (g.V.Verifier.verdict_of c.args.verifier.now) c.args.files.now)) (EndsRun (g.V.Verifier.verdict_of c.args.verifier.now) c.args.files.now) (BeginsWork (files_deed (g.V.Verifier.verdict_of c.args.verifier.now) c.args.files.now)) (PiecesPrepared (g.V.Verifier.verdict_of c.args.verifier.now) c.args.files.now)
-    (CameThrough (files_deed (g.V.Verifier.verdict_of c.args.verifier.now) c.args.files.now)) (AllRan (g.V.Verifier.verdict_of c.args.verifier.now) c.args.files.now) c.args.files.now (ends_run (g.V.Verifier.verdict_of c.args.verifier.now) c.args.files.now) (begun_run (g.V.Verifier.verdict_of c.args.verifier.now) c.args.files.now)
-    (through_run (g.V.Verifier.verdict_of c.args.verifier.now) c.args.files.now) c.in-Err-end_on.fault cut)) (of_fault _ c.end_on.result c.in-Err-end_on.fault c.in-Err-end_on.is done.stopped)
+    (PieceNext (g.V.Verifier.verdict_of c.args.verifier.now) c.args.files.now)
+    (EndsWork (files_deed (g.V.Verifier.verdict_of c.args.verifier.now) c.args.files.now))
+    (EndsRun (g.V.Verifier.verdict_of c.args.verifier.now) c.args.files.now)
+    (BeginsWork (files_deed (g.V.Verifier.verdict_of c.args.verifier.now) c.args.files.now))
+    (PiecesPrepared (g.V.Verifier.verdict_of c.args.verifier.now) c.args.files.now)
+    (CameThrough (files_deed (g.V.Verifier.verdict_of c.args.verifier.now) c.args.files.now))
+    (AllRan (g.V.Verifier.verdict_of c.args.verifier.now) c.args.files.now) c.args.files.now
+    (ends_run (g.V.Verifier.verdict_of c.args.verifier.now) c.args.files.now)
+    (begun_run (g.V.Verifier.verdict_of c.args.verifier.now) c.args.files.now)
+    (through_run (g.V.Verifier.verdict_of c.args.verifier.now) c.args.files.now) c.in-Err-end_on.fault cut))
+    (of_fault _ c.end_on.result c.in-Err-end_on.fault c.in-Err-end_on.is done.stopped)
 
 pub returns-in-Ok-end_on-clause-later : goal.returns-in-Ok-end_on-clause-later
 returns-in-Ok-end_on-clause-later g c n = omega (arith, c.in-Ok.ensures.later n, c.end_on.ensures.later n)

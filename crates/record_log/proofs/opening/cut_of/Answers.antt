@@ -4,7 +4,8 @@ use Rattle.record_log.proofs.opening.cut_of.Goals as goal
 
 pub returns-in-Ok-clause-cut : goal.returns-in-Ok-clause-cut
 returns-in-Ok-clause-cut c = λ bytes breaks place some.
-    cut_is c.in-Ok.read.header c.in-Ok.read.records c.in-Ok.read.cut c.args.damaged c.args.before.now bytes _ c.in-Ok.ensures.read.0 c.in-Ok.ensures.read.1 breaks place (omega arith) c.cut_at.ensures.cut
+    cut_is c.in-Ok.read.header c.in-Ok.read.records c.in-Ok.read.cut c.args.damaged c.args.before.now bytes _ c.in-Ok.ensures.read.0
+    c.in-Ok.ensures.read.1 breaks place (omega arith) c.cut_at.ensures.cut
 
 pub returns-in-Err-clause-cut : goal.returns-in-Err-clause-cut
 returns-in-Err-clause-cut c = λ bytes breaks place some.

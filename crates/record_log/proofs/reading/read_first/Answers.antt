@@ -7,11 +7,13 @@ use Rattle.record_log.proofs.reading.read_first.Goals.{else-is_empty-via-then-is
 
 pub returns-then-is_first-clause-found : goal.returns-then-is_first-clause-found
 returns-then-is_first-clause-found c =
-    let spelled = spelled_so c.args.bytes.now c.in-Ok.record c.in-Ok.rest.now (λ i. omega (arith, c.type_inv.bytes i)) c.in-Ok.ensures (eqb-true _ _ (sym c.is_empty.ensures ∙ c.if-is_empty.true)) in
+    let spelled = spelled_so c.args.bytes.now c.in-Ok.record c.in-Ok.rest.now (λ i. omega (arith, c.type_inv.bytes i)) c.in-Ok.ensures
+    (eqb-true _ _ (sym c.is_empty.ensures ∙ c.if-is_empty.true)) in
     (spelled, c.is_first.ensures.0 c.if-is_first.true)
 
 pub returns-then-is_first-clause-only : goal.returns-then-is_first-clause-only
-returns-then-is_first-clause-only c = λ r is. (same_read c.args.bytes.now c.in-Ok.record r c.in-Ok.rest.now c.in-Ok.ensures (is_read_first c.args.bytes.now r is)).0
+returns-then-is_first-clause-only c = λ r is. (same_read c.args.bytes.now c.in-Ok.record r c.in-Ok.rest.now c.in-Ok.ensures
+    (is_read_first c.args.bytes.now r is)).0
 
 pub returns-else-is_empty-clause-only : goal.returns-else-is_empty-clause-only
 returns-else-is_empty-clause-only c = λ r is.
@@ -28,4 +30,5 @@ returns-else-is_empty-clause-only c = λ r is.
     ]
 
 pub returns-in-Err-Bad-clause-only : goal.returns-in-Err-Bad-clause-only
-returns-in-Err-Bad-clause-only c = λ r is. no_fault c.args.bytes.now r c.in-Err-Bad.field-0-0 (rw c.in-Err-Bad.field-0-is at c.in-Err-Bad.ensures) (is_read_first c.args.bytes.now r is)
+returns-in-Err-Bad-clause-only c = λ r is. no_fault c.args.bytes.now r c.in-Err-Bad.field-0-0 (rw c.in-Err-Bad.field-0-is at c.in-Err-Bad.ensures)
+    (is_read_first c.args.bytes.now r is)

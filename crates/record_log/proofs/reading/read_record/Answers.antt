@@ -7,15 +7,19 @@ use Rattle.record_log.proofs.reading.read_record.Goals.{else-is_empty-via-then-i
 
 pub returns-then-is_in_grammar-clause-found : goal.returns-then-is_in_grammar-clause-found
 returns-then-is_in_grammar-clause-found c =
-    let spelled = spelled_so c.args.bytes.now c.in-Ok.record c.in-Ok.rest.now (λ i. omega (arith, c.type_inv.bytes i)) c.in-Ok.ensures (eqb-true _ _ (sym c.is_empty.ensures ∙ c.if-is_empty.true)) in
+    let spelled = spelled_so c.args.bytes.now c.in-Ok.record c.in-Ok.rest.now (λ i. omega (arith, c.type_inv.bytes i)) c.in-Ok.ensures
+    (eqb-true _ _ (sym c.is_empty.ensures ∙ c.if-is_empty.true)) in
     (spelled, c.is_in_grammar.ensures.0 c.if-is_in_grammar.true)
 
 pub returns-then-is_in_grammar-clause-only : goal.returns-then-is_in_grammar-clause-only
-returns-then-is_in_grammar-clause-only c = λ r is. (same_read c.args.bytes.now c.in-Ok.record r c.in-Ok.rest.now c.in-Ok.ensures (is_read c.args.header.now c.args.bytes.now r c.batch-limit.ensures.limits is)).0
+returns-then-is_in_grammar-clause-only c = λ r is.
+    (same_read c.args.bytes.now c.in-Ok.record r c.in-Ok.rest.now c.in-Ok.ensures
+    (is_read c.args.header.now c.args.bytes.now r c.batch-limit.ensures.limits is)).0
 
 pub returns-else-is_empty-clause-only : goal.returns-else-is_empty-clause-only
 returns-else-is_empty-clause-only c = λ r is.
-    let same = same_read c.args.bytes.now c.in-Ok.record r c.in-Ok.rest.now c.in-Ok.ensures (is_read c.args.header.now c.args.bytes.now r c.batch-limit.ensures.limits is) in
+    let same = same_read c.args.bytes.now c.in-Ok.record r c.in-Ok.rest.now c.in-Ok.ensures
+    (is_read c.args.header.now c.args.bytes.now r c.batch-limit.ensures.limits is) in
     elim c.else-is_empty.branch [
       | else-is_empty-via-then-is_empty+else-is_in_grammar w ↦
           let stands : w.is_in_grammar.result ≡ true = w.is_in_grammar.ensures.1 (subst (IsInGrammar c.args.header.now) (sym same.0) is.1) in
@@ -28,4 +32,5 @@ returns-else-is_empty-clause-only c = λ r is.
     ]
 
 pub returns-in-Err-Bad-clause-only : goal.returns-in-Err-Bad-clause-only
-returns-in-Err-Bad-clause-only c = λ r is. no_fault c.args.bytes.now r c.in-Err-Bad.field-0-0 (rw c.in-Err-Bad.field-0-is at c.in-Err-Bad.ensures) (is_read c.args.header.now c.args.bytes.now r c.batch-limit.ensures.limits is)
+returns-in-Err-Bad-clause-only c = λ r is. no_fault c.args.bytes.now r c.in-Err-Bad.field-0-0 (rw c.in-Err-Bad.field-0-is at c.in-Err-Bad.ensures)
+    (is_read c.args.header.now c.args.bytes.now r c.batch-limit.ensures.limits is)

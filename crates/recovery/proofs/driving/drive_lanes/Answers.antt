@@ -19,7 +19,8 @@ use Rattle.recovery.proofs.driving.drive_lanes.Goals as goal
 
 pub resume_lane-came-requires-clause-is_open : goal.resume_lane-came-requires-clause-is_open
 resume_lane-came-requires-clause-is_open g c =
-    open_here _ _ _ c.args.lanes.now c.loop-unfinished.unfinished-index _ c.loop-unfinished-test.true c.unfinished-item.is c.loop-unfinished.invariant.open_rest
+    open_here _ _ _ c.args.lanes.now c.loop-unfinished.unfinished-index _ c.loop-unfinished-test.true c.unfinished-item.is
+    c.loop-unfinished.invariant.open_rest
 
 pub loop-unfinished-preserved : goal.loop-unfinished-preserved
 loop-unfinished-preserved g c =
@@ -41,7 +42,8 @@ loop-unfinished-preserved g c =
     let home : home_of K o.batch.lane < K.coordinators = home_there K o (logs at) I o.phase stands in
     let now = lane_sights g.L.LogPort g.S.PortSet c.loop-unfinished.ports in
     let next = lane_sights g.L.LogPort g.S.PortSet c.resume_lane-came.new.ports in
-    let made : Made K [] alone o.batch.lane (view K o.batch.lane (logs at) I) (view K o.batch.lane (logs' at') J) = made_by K alone o came now next told.outcome in
+    let made : Made K [] alone o.batch.lane (view K o.batch.lane (logs at) I) (view K o.batch.lane (logs' at') J) =
+    made_by K alone o came now next told.outcome in
     let kept = c.keep-first.ensures.kept in
     let before = c.loop-unfinished.batches.items in
     let after = c.keep-first.new.batches.items in
@@ -49,43 +51,57 @@ loop-unfinished-preserved g c =
       keeps = record {
         to_log = log_on inv.keeps.to_log told.keeps.to_log;
         to_shards = shards_on inv.keeps.to_shards told.keeps.to_shards;
-        others = λ quiet. unlisted_more c.args.lanes.now i o inside c.unfinished-item.is _ _ _ _ _ _ _ _ inv.keeps.to_log.header_same (inv.keeps.others quiet) (told.keeps.others quiet);
+        others = λ quiet. unlisted_more c.args.lanes.now i o inside c.unfinished-item.is _ _ _ _ _ _ _ _ inv.keeps.to_log.header_same
+            (inv.keeps.others quiet) (told.keeps.others quiet);
       };
-      open_rest = open_rest _ _ _ _ _ _ c.args.lanes.now i o inside c.unfinished-item.is inv.rise inv.open_rest told.keeps.to_log.header_same (λ more. told.keeps.others (sym c.requires.same ∙ c.requires.alone more));
+      open_rest = open_rest _ _ _ _ _ _ c.args.lanes.now i o inside c.unfinished-item.is inv.rise inv.open_rest told.keeps.to_log.header_same
+          (λ more. told.keeps.others (sym c.requires.same ∙ c.requires.alone more));
       stand = stand_rest K g.S.PortSet.alone (logs at) (logs' at') I J c.args.lanes.now i o c.requires.alone inside c.unfinished-item.is inv.rise home
           (still_shape logs logs' at at' told.keeps.to_log.at_same told.keeps.to_log.nodes)
-          (subst (λ a. Made K [] a o.batch.lane (view K o.batch.lane (logs at) I) (view K o.batch.lane (logs' at') J)) (sym c.requires.same) made) inv.stand;
+          (subst (λ a. Made K [] a o.batch.lane (view K o.batch.lane (logs at) I) (view K o.batch.lane (logs' at') J)) (sym c.requires.same) made)
+          inv.stand;
       rise = rise_rest c.args.lanes.now i o inside c.unfinished-item.is inv.rise;
       came = came_more c.args.lanes.now i o inside c.unfinished-item.is K alone (lane_sights g.L.LogPort g.S.PortSet c.args.ports.now) now next
-          (logs_gone logs logs' at at' told.keeps.to_log.at_same told.keeps.to_log.nodes told.keeps.to_log.elsewhere (log_grows K o.batch.lane home alone (logs at) (logs' at') I J made))
-          (shards_gone I J told.keeps.to_shards.nodes (shard_grows K o.batch.lane home alone (logs at) (logs' at') I J made)) before after c.loop-unfinished.first c.keep-first.result came inv.came told.outcome kept;
+          (logs_gone logs logs' at at' told.keeps.to_log.at_same told.keeps.to_log.nodes told.keeps.to_log.elsewhere
+          (log_grows K o.batch.lane home alone (logs at) (logs' at') I J made))
+          (shards_gone I J told.keeps.to_shards.nodes (shard_grows K o.batch.lane home alone (logs at) (logs' at') I J made)) before after
+          c.loop-unfinished.first c.keep-first.result came inv.came told.outcome kept;
       over = λ none.
           let k = kept_none before after c.loop-unfinished.first c.keep-first.result came kept none in
-          over_more c.args.lanes.now i o inside c.unfinished-item.is _ _ _ _ _ _ told.keeps.to_log.header_same (λ more. told.keeps.others (sym c.requires.same ∙ c.requires.alone more))
-          (subst (λ x. OnOk x (g.L.LogPort.phase c.resume_lane-came.new.ports.log o.batch.lane ≡ Idle)) k.2 told.idle) inv.rise inv.open_rest (inv.over k.0);
+          over_more c.args.lanes.now i o inside c.unfinished-item.is _ _ _ _ _ _ told.keeps.to_log.header_same
+          (λ more. told.keeps.others (sym c.requires.same ∙ c.requires.alone more))
+          (subst (λ x. OnOk x (g.L.LogPort.phase c.resume_lane-came.new.ports.log o.batch.lane ≡ Idle)) k.2 told.idle) inv.rise inv.open_rest
+          (inv.over k.0);
       len = omega (arith, c.keep-first.ensures.len, inv.len);
       room = omega (arith, c.keep-first.ensures.capacity, inv.room);
-      rooms = rooms_less K c.args.lanes.now i o inside c.unfinished-item.is c.loop-unfinished.rooms.items c.pop.new.self.items c.in-Some.room c.in-Some.ensures.items inv.rooms;
+      rooms = rooms_less K c.args.lanes.now i o inside c.unfinished-item.is c.loop-unfinished.rooms.items c.pop.new.self.items c.in-Some.room
+          c.in-Some.ensures.items inv.rooms;
     }
 
 pub resume_lane-came-requires-clause-at : goal.resume_lane-came-requires-clause-at
-resume_lane-came-requires-clause-at g c = c.loop-unfinished.invariant.keeps.to_log.at_same ∙ c.requires.at ∙ ap (λ h. h.node) (sym c.loop-unfinished.invariant.keeps.to_log.header_same)
+resume_lane-came-requires-clause-at g c = c.loop-unfinished.invariant.keeps.to_log.at_same ∙ c.requires.at
+    ∙ ap (λ h. h.node) (sym c.loop-unfinished.invariant.keeps.to_log.header_same)
 
 pub resume_lane-came-requires-clause-ledger : goal.resume_lane-came-requires-clause-ledger
-resume_lane-came-requires-clause-ledger g c = ledger_kept c.args.shape.now (g.S.PortSet.sights c.args.ports.now.shards) (g.S.PortSet.sights c.loop-unfinished.ports.shards) c.requires.ledger c.loop-unfinished.invariant.keeps.to_shards.nodes
+resume_lane-came-requires-clause-ledger g c = ledger_kept c.args.shape.now (g.S.PortSet.sights c.args.ports.now.shards)
+    (g.S.PortSet.sights c.loop-unfinished.ports.shards) c.requires.ledger c.loop-unfinished.invariant.keeps.to_shards.nodes
 
 pub resume_lane-came-requires-clause-stands : goal.resume_lane-came-requires-clause-stands
 resume_lane-came-requires-clause-stands g c =
-    stands_here c.args.shape.now (g.L.LogPort.sights c.loop-unfinished.ports.log (g.L.LogPort.at c.loop-unfinished.ports.log)) (g.S.PortSet.sights c.loop-unfinished.ports.shards) c.args.lanes.now c.loop-unfinished.unfinished-index _ c.loop-unfinished-test.true c.unfinished-item.is c.loop-unfinished.invariant.stand
+    stands_here c.args.shape.now (g.L.LogPort.sights c.loop-unfinished.ports.log (g.L.LogPort.at c.loop-unfinished.ports.log))
+    (g.S.PortSet.sights c.loop-unfinished.ports.shards) c.args.lanes.now c.loop-unfinished.unfinished-index _ c.loop-unfinished-test.true
+    c.unfinished-item.is c.loop-unfinished.invariant.stand
 
 pub resume_lane-came-requires-clause-mine : goal.resume_lane-came-requires-clause-mine
 resume_lane-came-requires-clause-mine g c =
     subst (λ (o : OpenLane). g.S.PortSet.serves c.loop-unfinished.ports.shards o.batch.lane) (sym c.unfinished-item.is)
-    (c.loop-unfinished.invariant.keeps.to_shards.served _ (c.requires.mine c.loop-unfinished.unfinished-index c.unfinished-item.result c.loop-unfinished-test.true))
+    (c.loop-unfinished.invariant.keeps.to_shards.served _
+    (c.requires.mine c.loop-unfinished.unfinished-index c.unfinished-item.result c.loop-unfinished-test.true))
 
 pub resume_lane-came-requires-clause-room : goal.resume_lane-came-requires-clause-room
 resume_lane-came-requires-clause-room g c =
-    room_here c.args.shape.now c.args.lanes.now c.loop-unfinished.unfinished-index c.unfinished-item.result c.loop-unfinished-test.true c.unfinished-item.is c.loop-unfinished.rooms.items c.pop.new.self.items c.in-Some.room c.in-Some.ensures.items
+    room_here c.args.shape.now c.args.lanes.now c.loop-unfinished.unfinished-index c.unfinished-item.result c.loop-unfinished-test.true
+    c.unfinished-item.is c.loop-unfinished.rooms.items c.pop.new.self.items c.in-Some.room c.in-Some.ensures.items
     c.loop-unfinished.invariant.rooms
 
 pub unreachable-requires : goal.unreachable-requires

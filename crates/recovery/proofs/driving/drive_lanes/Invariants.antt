@@ -11,10 +11,13 @@ abbrev pub invariant-loop-unfinished : goal.invariant-loop-unfinished
 invariant-loop-unfinished g l = record {
   keeps : KeepsListedPorts g.L.LogPort g.S.PortSet l.lanes l.initial.ports l.ports;
   open_rest : All (IsOpenThrough g.L.LogPort l.ports.log) (drop l.unfinished-index l.lanes);
-  stand : AreUnfinished l.shape (drop l.unfinished-index l.lanes) (g.L.LogPort.sights l.ports.log (g.L.LogPort.at l.ports.log)) (g.S.PortSet.sights l.ports.shards);
+  stand : AreUnfinished l.shape (drop l.unfinished-index l.lanes) (g.L.LogPort.sights l.ports.log (g.L.LogPort.at l.ports.log))
+      (g.S.PortSet.sights l.ports.shards);
   rise : LanesRise (drop l.unfinished-index l.lanes);
-  came : CameSo l.shape g.L.LogPort.alone (take l.unfinished-index l.lanes) l.batches.items l.first (lane_sights g.L.LogPort g.S.PortSet l.initial.ports) (lane_sights g.L.LogPort g.S.PortSet l.ports);
-  over : l.first ≡ None → All (IsOver (g.L.LogPort.header l.ports.log) (g.L.LogPort.phase l.ports.log) (drop l.unfinished-index l.lanes)) (take l.unfinished-index l.lanes);
+  came : CameSo l.shape g.L.LogPort.alone (take l.unfinished-index l.lanes) l.batches.items l.first
+      (lane_sights g.L.LogPort g.S.PortSet l.initial.ports) (lane_sights g.L.LogPort g.S.PortSet l.ports);
+  over : l.first ≡ None → All (IsOver (g.L.LogPort.header l.ports.log) (g.L.LogPort.phase l.ports.log) (drop l.unfinished-index l.lanes))
+      (take l.unfinished-index l.lanes);
   len : vec_len l.batches ≤ l.unfinished-index;
   room : length l.lanes ≤ vec_capacity l.batches;
   rooms : AllZip (IsRoomToResume l.shape) (drop l.unfinished-index l.lanes) (reverse l.rooms.items);

@@ -10,7 +10,8 @@ loop-unfinished-preserved c =
     let i = c.loop-unfinished.unfinished-index in
     record {
       each = subst (λ rs. AllZip (IsRoomToResume c.args.shape.now) (take (i + 1) c.args.lanes.now) rs) (sym c.push_reserved.ensures.items)
-          (rooms_more c.args.shape.now c.args.lanes.now i c.unfinished-item.result c.loop-unfinished-test.true c.unfinished-item.is c.loop-unfinished.rooms.items c.in_ok-lane_room.field-0 so.each c.in_ok-lane_room.ensures);
+          (rooms_more c.args.shape.now c.args.lanes.now i c.unfinished-item.result c.loop-unfinished-test.true c.unfinished-item.is
+          c.loop-unfinished.rooms.items c.in_ok-lane_room.field-0 so.each c.in_ok-lane_room.ensures);
       len = c.push_reserved.ensures.len ∙ ap (λ n. n + 1) so.len;
       room = c.push_reserved.ensures.capacity ∙ so.room;
     }

@@ -10,7 +10,8 @@ returns g c =
       answered = answered;
       room = c.header-seen.ensures.sound.capacity;
       steps = λ backups.
-          goes _ _ _ old new backups answered.keeps.node.header c.records-before.ensures.journal c.records-behind.ensures.journal c.records-behind.ensures.flying
+          goes _ _ _ old new backups answered.keeps.node.header c.records-before.ensures.journal c.records-behind.ensures.journal
+          c.records-behind.ensures.flying
           (λ a r owes. c.header-seen.ensures.sound.landed (owes_whole old.broken _ a r owes)) _ c.lock-answer.result answered.meets;
       members = λ held k d is b image. (answered.keeps.holds held).each b (k, d, is, image);
       lists = λ held quiet k rest. opens_list g.D.Disk new quiet (λ j d is b image. (answered.keeps.holds held).each b (j, d, is, image)) k rest;

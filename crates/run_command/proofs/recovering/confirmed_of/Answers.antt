@@ -7,6 +7,14 @@ outcomes-preserved c =
     let next = won_next c.args.outcomes.now c.outcomes.outcome-index c.outcome-item.result c.outcomes-test.true c.outcome-item.is in
     let one = won_one c.outcome-item.result in
     record {
-      count = omega (arith, c.saturating_add-confirmed.ensures, c.one_if_held.ensures, c.outcomes.invariant.count, c.outcomes.invariant.bound, next, one);
+      count = omega (
+        arith,
+        c.saturating_add-confirmed.ensures,
+        c.one_if_held.ensures,
+        c.outcomes.invariant.count,
+        c.outcomes.invariant.bound,
+        next,
+        one,
+      );
       bound = omega (arith, c.saturating_add-confirmed.ensures, c.one_if_held.ensures, c.outcomes.invariant.bound, one);
     }

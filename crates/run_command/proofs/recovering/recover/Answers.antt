@@ -18,7 +18,8 @@ returns-in-Err-clause-kept g c file faults =
     let late = not_turned g.R.Disk.Disk before after open_turns c.in-Err.fault c.in-Err.ensures.stopped in
     kept_not recover_needs (recover_promise g.R.Disk.Disk) (at c.args.rack.now c.args.out.now) (at c.recover_on.new.rack c.args.out.now)
     (c.recover_on.new.rack ≡ c.args.rack.now) (Unit {0}) (λ of. absurd of) (λ _. tt) (λ name. refl)
-    c.in-Err.fault (late_fault (λ file. ⊥) (λ file. ⊥) c.in-Err.fault late (not_done g.R.Disk.Disk before after open_turns c.in-Err.fault c.in-Err.ensures.stopped)) c.in-Err.ensures.stopped
+    c.in-Err.fault (late_fault (λ file. ⊥) (λ file. ⊥) c.in-Err.fault late
+    (not_done g.R.Disk.Disk before after open_turns c.in-Err.fault c.in-Err.ensures.stopped)) c.in-Err.ensures.stopped
     (λ taken. absurd (late taken)) (inr (turns_leave g.R.Disk.Disk before after open_turns c.in-Err.fault c.in-Err.ensures.stopped)) refl refl
 
 pub returns-in-Ok-write_recovered-clause-kept : goal.returns-in-Ok-write_recovered-clause-kept
@@ -27,7 +28,8 @@ returns-in-Ok-write_recovered-clause-kept g c file faults =
     kept_done recover_needs (recover_promise g.R.Disk.Disk) (at c.args.rack.now c.args.out.now) (at c.recover_on.new.rack c.write_recovered.new.out)
     (c.recover_on.new.rack ≡ c.args.rack.now) (Unit {0}) (λ of. absurd of) (λ _. tt) (λ name. refl) (
       c.in-Ok.ensures.caused,
-      prints_recovery g.R.Disk.Disk (g.R.Rack.held c.args.rack.now) (g.R.Rack.held c.recover_on.new.rack) (IsPrinted (g.O.Sink.taken c.args.out.now) (g.O.Sink.taken c.write_recovered.new.out) answers.Ok)
+      prints_recovery g.R.Disk.Disk (g.R.Rack.held c.args.rack.now) (g.R.Rack.held c.recover_on.new.rack)
+          (IsPrinted (g.O.Sink.taken c.args.out.now) (g.O.Sink.taken c.write_recovered.new.out) answers.Ok)
           c.in-Ok.recovered c.in-Ok.ensures.told c.in-Ok-write_recovered.ensures.prints,
     ) c.write_recovered.ensures.cause.later
 
@@ -37,6 +39,7 @@ returns-clause-kept g c file faults =
     kept_cut recover_needs (recover_promise g.R.Disk.Disk) (at c.args.rack.now c.args.out.now) (at c.recover_on.new.rack c.write_recovered.new.out)
     (c.recover_on.new.rack ≡ c.args.rack.now) (Unit {0}) (λ of. absurd of) (λ _. tt) (λ name. refl) (
       c.in-Ok.ensures.caused,
-      prints_recovery g.R.Disk.Disk (g.R.Rack.held c.args.rack.now) (g.R.Rack.held c.recover_on.new.rack) (IsPrinted (g.O.Sink.taken c.args.out.now) (g.O.Sink.taken c.write_recovered.new.out) answers.WriteFault)
+      prints_recovery g.R.Disk.Disk (g.R.Rack.held c.args.rack.now) (g.R.Rack.held c.recover_on.new.rack)
+          (IsPrinted (g.O.Sink.taken c.args.out.now) (g.O.Sink.taken c.write_recovered.new.out) answers.WriteFault)
           c.in-Ok.recovered c.in-Ok.ensures.told c.in-Err-write_recovered.ensures.prints,
     ) c.in-Err-write_recovered.ensures.cause.failed c.write_recovered.ensures.cause.later

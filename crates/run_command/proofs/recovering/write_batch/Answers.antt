@@ -14,6 +14,8 @@ returns-clause-prints g c =
     let long = ap length same in
     let all = won_or_lost c.args.resumed.now.outcomes in
     let won : c.confirmed_of-confirmed.result ≡ won_in c.args.resumed.now.outcomes = c.confirmed_of-confirmed.ensures ∙ ap won_in same in
-    let lost : c.saturating_sub-rejected.result ≡ lost_in c.args.resumed.now.outcomes = omega (arith, c.saturating_sub-rejected.ensures, won, all, long) in
+    let lost : c.saturating_sub-rejected.result ≡ lost_in c.args.resumed.now.outcomes =
+    omega (arith, c.saturating_sub-rejected.ensures, won, all, long) in
     subst (λ n. Prints old new (resumed_line one.batch one.phase n (lost_in one.outcomes)) c.write_resumed.result) won
-    (subst (λ m. Prints old new (resumed_line one.batch one.phase c.confirmed_of-confirmed.result m) c.write_resumed.result) lost c.write_resumed.ensures.prints)
+    (subst (λ m. Prints old new (resumed_line one.batch one.phase c.confirmed_of-confirmed.result m) c.write_resumed.result) lost
+    c.write_resumed.ensures.prints)

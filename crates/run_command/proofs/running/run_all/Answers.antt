@@ -8,7 +8,8 @@ use Rattle.run_command.proofs.Inputs.{no_inputs_fault}
 use Rattle.run_command.proofs.running.run_all.Goals as goal
 
 pub returns-in-Err-clause-fault : goal.returns-in-Err-clause-fault
-returns-in-Err-clause-fault g c = no_inputs_fault (g.I.Inbox.file c.args.inbox.now) (g.I.Inbox.count c.args.inbox.now) (g.I.Inbox.count c.inputs_in.new.inbox) c.args.clients.now c.args.verdicts.now c.in-Err.fault c.in-Err.ensures.fault
+returns-in-Err-clause-fault g c = no_inputs_fault (g.I.Inbox.file c.args.inbox.now) (g.I.Inbox.count c.args.inbox.now)
+    (g.I.Inbox.count c.inputs_in.new.inbox) c.args.clients.now c.args.verdicts.now c.in-Err.fault c.in-Err.ensures.fault
 
 pub returns-in-Err-clause-why : goal.returns-in-Err-clause-why
 returns-in-Err-clause-why g c = elim c.in-Err.ensures.fault [ inl first ↦ inl first | inr all ↦ inr (all.0, all.1, inl all.2) ]

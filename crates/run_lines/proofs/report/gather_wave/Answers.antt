@@ -11,7 +11,8 @@ pub lines-init : goal.lines-init
 lines-init g c = record {
   count = omega arith;
   at = omega arith;
-  text = goes_begin (g.O.Sink.taken c.args.out.now) (c.args.page.now.text.items ++ told_file c.args.file 0 c.args.wave.now.lanes.items c.args.wave.now.checked.items);
+  text = goes_begin (g.O.Sink.taken c.args.out.now)
+      (c.args.page.now.text.items ++ told_file c.args.file 0 c.args.wave.now.lanes.items c.args.wave.now.checked.items);
 }
 
 pub lines-preserved : goal.lines-preserved
@@ -32,9 +33,19 @@ lines-preserved g c =
     = ap (λ n. told_line c.args.file n one.id c.report_of.result) c.lines.invariant.at ∙ ap (told_line c.args.file i one.id) c.report_of.ensures in
     record {
       count = omega (arith, c.lines.invariant.count, c.in_ok-gather_one.ensures.cause.later);
-      at = omega (arith, c.saturating_add-place.ensures, c.lines.invariant.at, c.lines.auto.one-index-end, c.deref-one-items.ensures.len, c.lines-test.true);
-      text = gathered_more old mid new whole waited (told_line c.args.file c.lines.place one.id c.report_of.result) (told_file c.args.file (i + 1) lanes (drop (i + 1) cs))
-          (subst (λ l. Goes old mid whole (waited ++ l)) (next_line c.args.file i lanes cs one low is ∙ ap (λ l. l ++ told_file c.args.file (i + 1) lanes (drop (i + 1) cs)) (sym line_is)) c.lines.invariant.text)
+      at = omega (
+        arith,
+        c.saturating_add-place.ensures,
+        c.lines.invariant.at,
+        c.lines.auto.one-index-end,
+        c.deref-one-items.ensures.len,
+        c.lines-test.true,
+      );
+      text = gathered_more old mid new whole waited (told_line c.args.file c.lines.place one.id c.report_of.result)
+          (told_file c.args.file (i + 1) lanes (drop (i + 1) cs))
+          (subst (λ l. Goes old mid whole (waited ++ l))
+          (next_line c.args.file i lanes cs one low is ∙ ap (λ l. l ++ told_file c.args.file (i + 1) lanes (drop (i + 1) cs)) (sym line_is))
+          c.lines.invariant.text)
           c.gather_one.new.page.text.items c.in_ok-gather_one.ensures.gathers;
     }
 
@@ -56,8 +67,11 @@ returns-in_err-gather_one-clause-gathers g c =
     = ap (λ n. told_line c.args.file n one.id c.report_of.result) c.lines.invariant.at ∙ ap (told_line c.args.file i one.id) c.report_of.ensures in
     let p = err_from_is_err_and c.from_residual.result c.from_residual.ensures.1 in
     rw p.1 (
-    gathered_cut old mid new whole waited (told_line c.args.file c.lines.place one.id c.report_of.result) (told_file c.args.file (i + 1) lanes (drop (i + 1) cs))
-    (subst (λ l. Goes old mid whole (waited ++ l)) (next_line c.args.file i lanes cs one low is ∙ ap (λ l. l ++ told_file c.args.file (i + 1) lanes (drop (i + 1) cs)) (sym line_is)) c.lines.invariant.text)
+    gathered_cut old mid new whole waited (told_line c.args.file c.lines.place one.id c.report_of.result)
+    (told_file c.args.file (i + 1) lanes (drop (i + 1) cs))
+    (subst (λ l. Goes old mid whole (waited ++ l))
+    (next_line c.args.file i lanes cs one low is ∙ ap (λ l. l ++ told_file c.args.file (i + 1) lanes (drop (i + 1) cs)) (sym line_is))
+    c.lines.invariant.text)
     c.in_err-gather_one.ensures.gathers
     )
 
@@ -70,4 +84,5 @@ returns-clause-gathers g c =
     let whole = c.args.page.now.text.items ++ told_file c.args.file 0 lanes cs in
     let waits = c.lines.page.text.items in
     subst (Goes old mid whole)
-    (ap (λ l. waits ++ l) (no_line c.args.file c.lines.one-index c.lines.one-index lanes cs (omega (arith, c.lines-test.false, ap length c.deref-one-items.ensures.value))) ∙ append-nil waits) c.lines.invariant.text
+    (ap (λ l. waits ++ l) (no_line c.args.file c.lines.one-index c.lines.one-index lanes cs
+    (omega (arith, c.lines-test.false, ap length c.deref-one-items.ensures.value))) ∙ append-nil waits) c.lines.invariant.text

@@ -16,7 +16,8 @@ returns-in_err-write_summary-clause-prints g c countable =
     let rest = audit_text c.args.totals.now in
     let p = err_from_is_err_and c.from_residual.result c.from_residual.ensures.1 in
     rw p.1 (part_cut old old new (numbers_of ran ++ rest) (numbers_of ran) rest (goes_begin old (numbers_of ran ++ rest))
-    (subst (λ t. Prints old new t (Err c.in_err-write_summary.field-0)) (numbers_text ran c.summary_of.result (c.summary_of.ensures countable)) c.in_err-write_summary.ensures.prints))
+    (subst (λ t. Prints old new t (Err c.in_err-write_summary.field-0)) (numbers_text ran c.summary_of.result (c.summary_of.ensures countable))
+    c.in_err-write_summary.ensures.prints))
 
 pub returns-clause-prints : goal.returns-clause-prints
 returns-clause-prints g c countable =
@@ -25,5 +26,9 @@ returns-clause-prints g c countable =
     let new = g.O.Sink.taken c.write_audit.new.out in
     let ran = c.args.ran.now in
     let rest = audit_text c.args.totals.now in
-    let lines : Tells old (λ t. mid ≡ Some (t ++ numbers_of ran)) = subst (λ l. Tells old (λ t. mid ≡ Some (t ++ l))) (numbers_text ran c.summary_of.result (c.summary_of.ensures countable)) c.in_ok-write_summary.ensures.prints in
-    last_part old mid new (numbers_of ran ++ rest) rest c.write_audit.result (part_more old old mid (numbers_of ran ++ rest) (numbers_of ran) rest (goes_begin old (numbers_of ran ++ rest)) lines) c.write_audit.ensures.prints
+    let lines : Tells old (λ t. mid ≡ Some (t ++ numbers_of ran)) =
+    subst (λ l. Tells old (λ t. mid ≡ Some (t ++ l))) (numbers_text ran c.summary_of.result (c.summary_of.ensures countable))
+    c.in_ok-write_summary.ensures.prints in
+    last_part old mid new (numbers_of ran ++ rest) rest c.write_audit.result
+    (part_more old old mid (numbers_of ran ++ rest) (numbers_of ran) rest (goes_begin old (numbers_of ran ++ rest)) lines)
+    c.write_audit.ensures.prints

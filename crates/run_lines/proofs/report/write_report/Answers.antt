@@ -22,6 +22,9 @@ returns-clause-prints g c countable =
     let mid = g.O.Sink.taken c.write_waves.new.out in
     let new = g.O.Sink.taken c.write_summary.new.out in
     let ran = c.args.ran.now in
-    let lines : Tells old (λ t. mid ≡ Some (t ++ told_files 1 ran.waves.items)) = subst (λ ws. Tells old (λ t. mid ≡ Some (t ++ told_files 1 ws))) c.deref.ensures.value c.in_ok-write_waves.ensures.prints in
-    last_part old mid new (ran_text ran) (numbers_of ran) c.write_summary.result (part_more old old mid (ran_text ran) (told_files 1 ran.waves.items) (numbers_of ran) (goes_begin old (ran_text ran)) lines)
-    (subst (λ t. Prints mid new t c.write_summary.result) (numbers_text ran c.summary_of.result (c.summary_of.ensures countable)) c.write_summary.ensures.prints)
+    let lines : Tells old (λ t. mid ≡ Some (t ++ told_files 1 ran.waves.items)) =
+    subst (λ ws. Tells old (λ t. mid ≡ Some (t ++ told_files 1 ws))) c.deref.ensures.value c.in_ok-write_waves.ensures.prints in
+    last_part old mid new (ran_text ran) (numbers_of ran) c.write_summary.result
+    (part_more old old mid (ran_text ran) (told_files 1 ran.waves.items) (numbers_of ran) (goes_begin old (ran_text ran)) lines)
+    (subst (λ t. Prints mid new t c.write_summary.result) (numbers_text ran c.summary_of.result (c.summary_of.ensures countable))
+    c.write_summary.ensures.prints)

@@ -31,8 +31,12 @@ waves-preserved g c =
     record {
       count = omega (arith, c.waves.invariant.count, c.in_ok-gather_wave.ensures.cause.later);
       at = omega (arith, c.saturating_add-file.ensures, c.waves.invariant.at);
-      text = gathered_more old mid new (told_files 1 ws) waited (told_file c.waves.file 0 w.lanes.items w.checked.items) (told_files ((i + 1) + 1) (drop (i + 1) ws))
-          (subst (λ l. Goes old mid (told_files 1 ws) (waited ++ l)) (next_file i ws w c.waves-test.true c.wave-item.is ∙ ap (λ n. told_file n 0 w.lanes.items w.checked.items ++ told_files ((i + 1) + 1) (drop (i + 1) ws)) (sym number)) c.waves.invariant.text)
+      text = gathered_more old mid new (told_files 1 ws) waited (told_file c.waves.file 0 w.lanes.items w.checked.items)
+          (told_files ((i + 1) + 1) (drop (i + 1) ws))
+          (subst (λ l. Goes old mid (told_files 1 ws) (waited ++ l))
+          (next_file i ws w c.waves-test.true c.wave-item.is
+          ∙ ap (λ n. told_file n 0 w.lanes.items w.checked.items ++ told_files ((i + 1) + 1) (drop (i + 1) ws)) (sym number))
+          c.waves.invariant.text)
           c.gather_wave.new.page.text.items c.in_ok-gather_wave.ensures.gathers;
     }
 
@@ -48,8 +52,11 @@ returns-in_err-gather_wave-clause-prints g c =
     let number : c.waves.file ≡ i + 1 = omega (arith, c.waves.invariant.at, c.waves-test.true, c.waves.auto.wave-index-end) in
     let p = err_from_is_err_and c.from_residual.result c.from_residual.ensures.1 in
     rw p.1 (
-    gathered_cut old mid new (told_files 1 ws) waited (told_file c.waves.file 0 w.lanes.items w.checked.items) (told_files ((i + 1) + 1) (drop (i + 1) ws))
-    (subst (λ l. Goes old mid (told_files 1 ws) (waited ++ l)) (next_file i ws w c.waves-test.true c.wave-item.is ∙ ap (λ n. told_file n 0 w.lanes.items w.checked.items ++ told_files ((i + 1) + 1) (drop (i + 1) ws)) (sym number)) c.waves.invariant.text)
+    gathered_cut old mid new (told_files 1 ws) waited (told_file c.waves.file 0 w.lanes.items w.checked.items)
+    (told_files ((i + 1) + 1) (drop (i + 1) ws))
+    (subst (λ l. Goes old mid (told_files 1 ws) (waited ++ l))
+    (next_file i ws w c.waves-test.true c.wave-item.is
+    ∙ ap (λ n. told_file n 0 w.lanes.items w.checked.items ++ told_files ((i + 1) + 1) (drop (i + 1) ws)) (sym number)) c.waves.invariant.text)
     c.in_err-gather_wave.ensures.gathers
     )
 
@@ -61,5 +68,6 @@ returns-clause-prints g c =
     let new = g.O.Sink.taken c.write_all.new.out in
     let waits = c.waves.page.text.items in
     last_part old mid new (told_files 1 ws) waits c.write_all.result
-    (subst (Goes old mid (told_files 1 ws)) (ap (λ l. waits ++ l) (no_file c.waves.wave-index (c.waves.wave-index + 1) ws (omega (arith, c.waves-test.false))) ∙ append-nil waits) c.waves.invariant.text)
+    (subst (Goes old mid (told_files 1 ws)) (ap (λ l. waits ++ l)
+    (no_file c.waves.wave-index (c.waves.wave-index + 1) ws (omega (arith, c.waves-test.false))) ∙ append-nil waits) c.waves.invariant.text)
     (subst (λ l. Prints mid new l c.write_all.result) c.lines.ensures c.write_all.ensures.prints)

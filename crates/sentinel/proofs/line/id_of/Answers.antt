@@ -14,7 +14,8 @@ returns-then-is_err-clause-id c = λ tx size bytes is.
     absurd (let both = rw ok at value in cc)
 
 pub returns-then-eq-clause-bytes : goal.returns-then-eq-clause-bytes
-returns-then-eq-clause-bytes c = id_bytes c.args.digits.now c.decode_to_slice.result c.decode_to_slice.new.out c.decode_to_slice.ensures.value (sym c.is_err.ensures.value ∙ c.if-is_err.false)
+returns-then-eq-clause-bytes c = id_bytes c.args.digits.now c.decode_to_slice.result c.decode_to_slice.new.out c.decode_to_slice.ensures.value
+    (sym c.is_err.ensures.value ∙ c.if-is_err.false)
 
 pub returns-clause-id : goal.returns-clause-id
 returns-clause-id c = λ tx size bytes is.

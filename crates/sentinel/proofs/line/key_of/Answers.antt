@@ -27,7 +27,8 @@ returns-in-Some-Some-clause-key c =
     let number = rw c.in-Some-strip_prefix.is at found in
     sym (take-append-drop 64 c.args.front.now)
     ∙ ap (λ (x : List ℕ). x ++ drop 64 c.args.front.now) (sym c.in-Some.ensures.cases.1 ∙ c.in-Some-Some.ensures.id)
-    ∙ ap (λ (y : List ℕ). encode_lower c.in-Some-Some.tx ++ y) (sym c.in-Some.ensures.cases.2 ∙ number ∙ ap (λ (z : List ℕ). 32 ∷ z) c.in-Some-Some.ensures'.1)
+    ∙ ap (λ (y : List ℕ). encode_lower c.in-Some-Some.tx ++ y)
+    (sym c.in-Some.ensures.cases.2 ∙ number ∙ ap (λ (z : List ℕ). 32 ∷ z) c.in-Some-Some.ensures'.1)
 
 pub returns-in_default-2-clause-key : goal.returns-in_default-2-clause-key
 returns-in_default-2-clause-key c = λ l ok is.

@@ -12,4 +12,5 @@ returns-in-Some-key_of c = (
 
 pub returns-in-None : goal.returns-in-None
 returns-in-None c = λ l ok is.
-    c.in-None.ensures.key l ok (same_front c.in-Some.front.now (encode_lower l.tx ++ 32 ∷ decimal l.index) c.in-Some.good l.good (sym c.in-Some.ensures ∙ is))
+    c.in-None.ensures.key l ok (same_front c.in-Some.front.now (encode_lower l.tx ++ 32 ∷ decimal l.index) c.in-Some.good l.good
+    (sym c.in-Some.ensures ∙ is))

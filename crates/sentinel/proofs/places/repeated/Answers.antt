@@ -8,4 +8,5 @@ pub inputs-preserved : goal.inputs-preserved
 inputs-preserved c = none_further (Repeats c.args.inputs.now) c.inputs.index (search rules) c.inputs.invariant
 
 pub returns : goal.returns
-returns c = λ i (x, at, earlier). let within : i < length c.args.inputs.now = slice_get_within c.args.inputs.now i x at in c.inputs.invariant i (omega arith) (x, at, earlier)
+returns c = λ i (x, at, earlier). let within : i < length c.args.inputs.now = slice_get_within c.args.inputs.now i x at in
+    c.inputs.invariant i (omega arith) (x, at, earlier)

@@ -4,7 +4,8 @@ use Rattle.sentinel.proofs.PlaceLemmas.{none_below, none_at_all}
 use Rattle.sentinel.proofs.places.zero_input.Goals as goal
 
 pub inputs-preserved : goal.inputs-preserved
-inputs-preserved c = none_below (λ (x : Input). x.output.value ≡ 0) c.args.inputs.now c.inputs.index c.index-inputs-index.result c.inputs-test.true c.index-inputs-index.is (search rules) c.inputs.invariant
+inputs-preserved c = none_below (λ (x : Input). x.output.value ≡ 0) c.args.inputs.now c.inputs.index c.index-inputs-index.result c.inputs-test.true
+    c.index-inputs-index.is (search rules) c.inputs.invariant
 
 pub returns : goal.returns
 returns c = none_at_all (λ (x : Input). x.output.value ≡ 0) c.args.inputs.now c.inputs.index c.inputs-test.false c.inputs.invariant

@@ -5,4 +5,5 @@ use Rattle.sentinel.proofs.Ranks.{no_zero_output}
 use Rattle.sentinel.proofs.steps.has_zero_output.Goals as goal
 
 pub returns-in-None : goal.returns-in-None
-returns-in-None c = λ v. no_zero_output c.args.tx.now v (subst (λ (xs : List Output). (i : ℕ) → ¬ (HasAt (λ o. o.value ≡ 0) xs i)) c.as_slice.ensures c.in-None.ensures)
+returns-in-None c = λ v. no_zero_output c.args.tx.now v
+    (subst (λ (xs : List Output). (i : ℕ) → ¬ (HasAt (λ o. o.value ≡ 0) xs i)) c.as_slice.ensures c.in-None.ensures)

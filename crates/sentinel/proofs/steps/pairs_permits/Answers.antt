@@ -10,4 +10,5 @@ returns c =
     let t = c.args.tx.now in
     let ins : permits_in t ≡ c.permits_claimed-ins.result = ap (sum_in permits_of) (sym c.as_slice.ensures) ∙ sym c.permits_claimed-ins.ensures in
     let outs : permits_out t ≡ c.permits_among-outs.result = ap (sum_out permits_of) (sym c.as_slice-2.ensures) ∙ sym c.permits_among-outs.ensures in
-    λ v. paired_permits t v (pair_of (permits_in t) (permits_out t) (omega (arith, ins, outs, c.if-ins-outs.false)) (omega (arith, ins, c.if-ins-gt1.false)))
+    λ v. paired_permits t v (pair_of (permits_in t) (permits_out t) (omega (arith, ins, outs, c.if-ins-outs.false))
+    (omega (arith, ins, c.if-ins-gt1.false)))

@@ -7,4 +7,5 @@ use Rattle.sentinel.proofs.Ranks.{no_burned_input}
 use Rattle.sentinel.proofs.steps.spends_burned.Goals as goal
 
 pub returns-in-None : goal.returns-in-None
-returns-in-None c = λ v. no_burned_input c.args.tx.now v (subst (λ (xs : List Input). (i : ℕ) → ¬ (HasAt (λ x. kind_of x.output ≡ Burn) xs i)) c.as_slice.ensures c.in-None.ensures)
+returns-in-None c = λ v. no_burned_input c.args.tx.now v
+    (subst (λ (xs : List Input). (i : ℕ) → ¬ (HasAt (λ x. kind_of x.output ≡ Burn) xs i)) c.as_slice.ensures c.in-None.ensures)

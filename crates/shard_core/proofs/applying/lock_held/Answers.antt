@@ -25,8 +25,10 @@ loop-answered-preserved c =
           let more = (λ (y : Digest). held_more c.args.entries.now c.loop-answered.answered-index c.answered-item.result p held y) in
           rw (w.unspent-is, w.locks-is, add-one)
           (record {
-            unspent = λ y. not_step _ _ (has c.answered-item.result.entry.inputs y) (has c.loop-answered.unspent.hashes y) _ (more y) (moved.unspent y) ∙ i.unspent y;
-            locks = λ y. if_step _ _ (has c.answered-item.result.entry.inputs y) (Some c.args.batch.now) (holder_in c.loop-answered.locks.held y) _ (more y) (moved.locks y) ∙ i.locks y;
+            unspent = λ y. not_step _ _ (has c.answered-item.result.entry.inputs y) (has c.loop-answered.unspent.hashes y) _ (more y)
+                (moved.unspent y) ∙ i.unspent y;
+            locks = λ y. if_step _ _ (has c.answered-item.result.entry.inputs y) (Some c.args.batch.now) (holder_in c.loop-answered.locks.held y) _
+                (more y) (moved.locks y) ∙ i.locks y;
             spare = let s = i.spare in let m = moved.spare in omega (arith, s, m);
             room =
                 let n = held_count c.args.entries.now c.loop-answered.answered-index c.answered-item.result p held in

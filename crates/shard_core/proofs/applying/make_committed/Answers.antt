@@ -16,15 +16,20 @@ loop-at-preserved c =
       | then-decisions-at w ↦
           let xs : w.as_slice.result.now ≡ c.index-entries-at.result.outputs = w.as_slice.ensures in
           let moved = rw xs at w.put_all.ensures in
-          let more = (λ (y : Digest). outputs_more c.args.entries.now c.args.decisions.now c.loop-at.at c.index-entries-at.result p (cut_bool c.args.decisions.now c.loop-at.at true dl w.if-decisions-at.true) y) in
+          let more = (λ (y : Digest). outputs_more c.args.entries.now c.args.decisions.now c.loop-at.at c.index-entries-at.result p
+          (cut_bool c.args.decisions.now c.loop-at.at true dl w.if-decisions-at.true) y) in
           rw (w.unspent-is, w.locks-is, add-one)
           (record {
-            unspent = λ y. or_step _ _ (has c.index-entries-at.result.outputs y) (has c.loop-at.unspent.hashes y) _ (more y) (moved.unspent y) ∙ i.unspent y;
-            locks = λ y. if_step _ _ (has c.index-entries-at.result.outputs y) None (lookup c.loop-at.locks.held y) _ (more y) (moved.locks y) ∙ i.locks y;
-            spare = let n = outputs_in_more c.args.entries.now c.loop-at.at c.index-entries-at.result p in let s = i.spare in let m = moved.spare in omega (arith, n, s, m);
+            unspent = λ y. or_step _ _ (has c.index-entries-at.result.outputs y) (has c.loop-at.unspent.hashes y) _ (more y) (moved.unspent y)
+                ∙ i.unspent y;
+            locks = λ y. if_step _ _ (has c.index-entries-at.result.outputs y) None (lookup c.loop-at.locks.held y) _ (more y) (moved.locks y)
+                ∙ i.locks y;
+            spare = let n = outputs_in_more c.args.entries.now c.loop-at.at c.index-entries-at.result p in let s = i.spare in let m = moved.spare in
+                omega (arith, n, s, m);
           })
       | else-decisions-at w ↦
-          let same = (λ (y : Digest). outputs_same c.args.entries.now c.args.decisions.now c.loop-at.at c.index-entries-at.result p (cut_bool c.args.decisions.now c.loop-at.at false dl w.if-decisions-at.false) y) in
+          let same = (λ (y : Digest). outputs_same c.args.entries.now c.args.decisions.now c.loop-at.at c.index-entries-at.result p
+          (cut_bool c.args.decisions.now c.loop-at.at false dl w.if-decisions-at.false) y) in
           rw (w.unspent-is, w.locks-is, add-one)
           (record {
             unspent = λ y. ap (λ (b : Bool). b || has c.loop-at.unspent.hashes y) (sym (same y)) ∙ i.unspent y;

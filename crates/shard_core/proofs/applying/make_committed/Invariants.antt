@@ -7,7 +7,9 @@ use Rattle.shard_core.proofs.applying.make_committed.Given as goal
 
 abbrev pub invariant-loop-at : goal.invariant-loop-at
 invariant-loop-at l = record {
-  unspent : (y : Digest) → (has (outputs_where (drop l.at l.entries) (drop l.at l.decisions)) y || has l.unspent.hashes y) ≡ (has (outputs_where l.entries l.decisions) y || has l.fn.unspent.hashes y);
-  locks : (y : Digest) → (if has (outputs_where (drop l.at l.entries) (drop l.at l.decisions)) y then None else lookup l.locks.held y) ≡ (if has (outputs_where l.entries l.decisions) y then None else lookup l.fn.locks.held y);
+  unspent : (y : Digest) → (has (outputs_where (drop l.at l.entries) (drop l.at l.decisions)) y || has l.unspent.hashes y)
+      ≡ (has (outputs_where l.entries l.decisions) y || has l.fn.unspent.hashes y);
+  locks : (y : Digest) → (if has (outputs_where (drop l.at l.entries) (drop l.at l.decisions)) y then None else lookup l.locks.held y)
+      ≡ (if has (outputs_where l.entries l.decisions) y then None else lookup l.fn.locks.held y);
   spare : l.fn.unspent.spare + outputs_in (drop l.at l.entries) ≤ l.unspent.spare + outputs_in l.entries;
 }

@@ -7,6 +7,7 @@ use Rattle.shard_core.proofs.applying.put_all.Given as goal
 abbrev pub invariant-loop-x : goal.invariant-loop-x
 invariant-loop-x l = record {
   unspent : (y : Digest) → (has (drop l.x-index l.xs) y || has l.unspent.hashes y) ≡ (has (l.xs) y || has l.fn.unspent.hashes y);
-  locks : (y : Digest) → (if has (drop l.x-index l.xs) y then None else lookup l.locks.held y) ≡ (if has (l.xs) y then None else lookup l.fn.locks.held y);
+  locks : (y : Digest) → (if has (drop l.x-index l.xs) y then None else lookup l.locks.held y)
+      ≡ (if has (l.xs) y then None else lookup l.fn.locks.held y);
   spare : l.fn.unspent.spare ≤ l.unspent.spare + l.x-index;
 }

@@ -19,15 +19,22 @@ loop-at-preserved c =
       | then-is_returned w ↦
           let xs : w.as_slice.result.now ≡ c.index-entries-at.result.inputs = w.as_slice.ensures in
           let moved = rw xs at w.put_all.ensures in
-          let more = (λ (y : Digest). returned_more c.args.entries.now c.args.replies.now c.args.decisions.now c.loop-at.at c.index-entries-at.result c.index-replies-at.result (get_or c.args.decisions.now c.loop-at.at false) p o d (sym c.is_returned.ensures ∙ w.if-is_returned.true) y) in
+          let more = (λ (y : Digest). returned_more c.args.entries.now c.args.replies.now c.args.decisions.now c.loop-at.at c.index-entries-at.result
+          c.index-replies-at.result (get_or c.args.decisions.now c.loop-at.at false) p o d (sym c.is_returned.ensures ∙ w.if-is_returned.true) y)
+          in
           rw (w.unspent-is, w.locks-is, add-one)
           (record {
-            unspent = λ y. or_step _ _ (has c.index-entries-at.result.inputs y) (has c.loop-at.unspent.hashes y) _ (more y) (moved.unspent y) ∙ i.unspent y;
-            locks = λ y. if_step _ _ (has c.index-entries-at.result.inputs y) None (lookup c.loop-at.locks.held y) _ (more y) (moved.locks y) ∙ i.locks y;
-            spare = let n = inputs_in_more c.args.entries.now c.loop-at.at c.index-entries-at.result p in let s = i.spare in let m = moved.spare in omega (arith, n, s, m);
+            unspent = λ y. or_step _ _ (has c.index-entries-at.result.inputs y) (has c.loop-at.unspent.hashes y) _ (more y) (moved.unspent y)
+                ∙ i.unspent y;
+            locks = λ y. if_step _ _ (has c.index-entries-at.result.inputs y) None (lookup c.loop-at.locks.held y) _ (more y) (moved.locks y)
+                ∙ i.locks y;
+            spare = let n = inputs_in_more c.args.entries.now c.loop-at.at c.index-entries-at.result p in let s = i.spare in let m = moved.spare in
+                omega (arith, n, s, m);
           })
       | else-is_returned w ↦
-          let same = (λ (y : Digest). returned_same c.args.entries.now c.args.replies.now c.args.decisions.now c.loop-at.at c.index-entries-at.result c.index-replies-at.result (get_or c.args.decisions.now c.loop-at.at false) p o d (sym c.is_returned.ensures ∙ w.if-is_returned.false) y) in
+          let same = (λ (y : Digest). returned_same c.args.entries.now c.args.replies.now c.args.decisions.now c.loop-at.at c.index-entries-at.result
+          c.index-replies-at.result (get_or c.args.decisions.now c.loop-at.at false) p o d (sym c.is_returned.ensures ∙ w.if-is_returned.false)
+          y) in
           rw (w.unspent-is, w.locks-is, add-one)
           (record {
             unspent = λ y. ap (λ (b : Bool). b || has c.loop-at.unspent.hashes y) (sym (same y)) ∙ i.unspent y;

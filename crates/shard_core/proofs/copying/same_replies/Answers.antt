@@ -32,7 +32,8 @@ returns-then-not-is_same_reply c = (
   λ t. absurd (cc),
   λ e.
       let count = replies_at c.args.entries.now c.args.replies.now e in
-      let same = reply_at c.args.entries.now c.loop-at.at (get_or c.args.entries.now c.loop-at.at c.index-entries-at.result) c.index-replies-at.result (omega arith)
+      let same = reply_at c.args.entries.now c.loop-at.at (get_or c.args.entries.now c.loop-at.at c.index-entries-at.result)
+      c.index-replies-at.result (omega arith)
       (ap (λ a. get_or c.args.entries.now c.loop-at.at a) c.index-entries-at.is)
       (c.index-replies-at.is ∙ ap (λ rs. get_or rs c.loop-at.at c.index-replies-at.result) e) in
       sym c.if-not-is_same_reply.true ∙ c.is_same_reply.ensures.1 same,

@@ -6,7 +6,8 @@ use Rattle.shard_core.proofs.judging.judge_finish.Goals as goal
 
 pub returns-then-given-number-clause-plan : goal.returns-then-given-number-clause-plan
 returns-then-given-number-clause-plan c =
-    λ J s e. finish_elsewhere J c.args.call.now.batch c.args.call.now.decisions c.args.call.now.cause c.args.slot.now _ c.other_number.result s c.number_of-number.ensures (λ q. omega (arith, q))
+    λ J s e. finish_elsewhere J c.args.call.now.batch c.args.call.now.decisions c.args.call.now.cause c.args.slot.now _ c.other_number.result s
+    c.number_of-number.ensures (λ q. omega (arith, q))
     c.other_number.ensures.stale c.other_number.ensures.ahead
 
 pub returns-in-Idle-clause-plan : goal.returns-in-Idle-clause-plan
@@ -14,7 +15,8 @@ returns-in-Idle-clause-plan c =
     λ J s e.
     let n = rw c.in-Idle.is at c.number_of-number.ensures in
     let t = rw c.in-Idle.is at s in
-    ap (λ k. Refuse (Stale k)) n ∙ sym (finish_idle J c.args.call.now.batch c.args.call.now.decisions c.args.call.now.cause c.in-Idle.number t.0 (omega (arith, n)))
+    ap (λ k. Refuse (Stale k)) n ∙ sym (finish_idle J c.args.call.now.batch c.args.call.now.decisions c.args.call.now.cause c.in-Idle.number t.0
+    (omega (arith, n)))
 
 pub returns-in-Locked-clause-next : goal.returns-in-Locked-clause-next
 returns-in-Locked-clause-next c =
@@ -33,11 +35,13 @@ pub returns-in-Finished-clause-next : goal.returns-in-Finished-clause-next
 returns-in-Finished-clause-next c =
     let k = rw c.in-Finished.is at c.number_of-number.ensures in
     let n : c.in-Finished.number ≡ c.args.call.now.batch.number = omega (arith, k) in
-    rw (c.in-Finished.is, n) (rw c.as_slice-in-Finished.ensures at (c.finish_again.ensures.next c.in-Finished.part c.in-Finished.replies c.in-Finished.locked_at))
+    rw (c.in-Finished.is, n) (rw c.as_slice-in-Finished.ensures at
+    (c.finish_again.ensures.next c.in-Finished.part c.in-Finished.replies c.in-Finished.locked_at))
 
 pub returns-in-Finished-clause-plan : goal.returns-in-Finished-clause-plan
 returns-in-Finished-clause-plan c =
     λ J s e.
     let k = rw c.in-Finished.is at c.number_of-number.ensures in
     let n : c.in-Finished.number ≡ c.args.call.now.batch.number = omega (arith, k) in
-    c.finish_again.ensures.plan J c.in-Finished.part c.in-Finished.replies c.in-Finished.locked_at (rw c.as_slice-in-Finished.ensures (rw n at (rw c.in-Finished.is at s)))
+    c.finish_again.ensures.plan J c.in-Finished.part c.in-Finished.replies c.in-Finished.locked_at
+    (rw c.as_slice-in-Finished.ensures (rw n at (rw c.in-Finished.is at s)))

@@ -16,7 +16,8 @@ loop-entry-init c = record {
 
 pub loop-entry-preserved : goal.loop-entry-preserved
 loop-entry-preserved c = record {
-  len = let n = c.loop-entry.invariant.len in rw c.in_ok-push.ensures.items (sym (one_more c.loop-entry.replies.items c.reply_to-reply.result) ∙ ap (λ (k : ℕ). k + 1) n);
+  len = let n = c.loop-entry.invariant.len in rw c.in_ok-push.ensures.items
+      (sym (one_more c.loop-entry.replies.items c.reply_to-reply.result) ∙ ap (λ (k : ℕ). k + 1) n);
   replies = λ J a.
       let p = c.loop-entry.invariant.replies J a in
       let e = c.entry-item.result in

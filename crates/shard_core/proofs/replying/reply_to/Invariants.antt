@@ -7,5 +7,6 @@ use Rattle.shard_core.proofs.replying.reply_to.Given as goal
 
 -- the inputs so far can be held
 abbrev pub invariant-loop-x : goal.invariant-loop-x
-invariant-loop-x l = (J : List Record) (before : List Digest) → HashesAgree l.unspent.hashes l.locks.held J → ((y : Digest) → has l.claimed y ≡ has before y)
+invariant-loop-x l = (J : List Record) (before : List Digest) → HashesAgree l.unspent.hashes l.locks.held J
+    → ((y : Digest) → has l.claimed y ≡ has before y)
     → reply_to J l.batch before l.inputs ≡ reply_to J l.batch before (drop l.x-index l.inputs)

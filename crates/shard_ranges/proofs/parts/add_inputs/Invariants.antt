@@ -8,5 +8,6 @@ abbrev pub invariant-loop-x : goal.invariant-loop-x
 invariant-loop-x l = record {
   count : vec_len l.parts ≡ l.shards;
   items : l.x-items ≡ l.tx.inputs;
-  grown : (txs : List Compact) → length txs ≡ l.place → AreSplit l.shards txs l.fn.parts.items → AreGrown l.shards txs l.place l.tx.id (take l.x-index l.tx.inputs) [] l.parts.items;
+  grown : (txs : List Compact) → length txs ≡ l.place → AreSplit l.shards txs l.fn.parts.items
+      → AreGrown l.shards txs l.place l.tx.id (take l.x-index l.tx.inputs) [] l.parts.items;
 }

@@ -8,5 +8,6 @@ abbrev pub invariant-loop-x : goal.invariant-loop-x
 invariant-loop-x l = record {
   count : vec_len l.parts ≡ l.shards;
   items : l.x-items ≡ l.tx.outputs;
-  grown : (txs : List Compact) → length txs ≡ l.place → AreGrown l.shards txs l.place l.tx.id l.tx.inputs [] l.fn.parts.items → AreGrown l.shards txs l.place l.tx.id l.tx.inputs (take l.x-index l.tx.outputs) l.parts.items;
+  grown : (txs : List Compact) → length txs ≡ l.place → AreGrown l.shards txs l.place l.tx.id l.tx.inputs [] l.fn.parts.items
+      → AreGrown l.shards txs l.place l.tx.id l.tx.inputs (take l.x-index l.tx.outputs) l.parts.items;
 }

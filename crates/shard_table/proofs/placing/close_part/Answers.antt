@@ -8,7 +8,8 @@ use Rattle.shard_table.proofs.placing.close_part.Goals.{then-is_passed, else-is_
 pub returns-in_default-clause-closed : goal.returns-in_default-clause-closed
 returns-in_default-clause-closed g c =
     let i = c.loop-at.invariant in
-    λ none. open_end c.loop-at.slots (length c.args.slots.now) c.loop-at.free c.loop-at.at i.opened (sym i.len) (omega arith) (λ e. i.apart c.loop-at.at (omega arith) (omega arith) (sym e))
+    λ none. open_end c.loop-at.slots (length c.args.slots.now) c.loop-at.free c.loop-at.at i.opened (sym i.len) (omega arith)
+    (λ e. i.apart c.loop-at.at (omega arith) (omega arith) (sym e))
     (sym c.at.ensures ∙ c.in_default.is)
 
 pub loop-at-preserved : goal.loop-at-preserved
@@ -22,10 +23,12 @@ loop-at-preserved g c =
     let within : free < length s = omega (arith, i.len, i.opened.within) in
     let apart : free ≢ at = λ q. i.apart at (omega arith) (omega arith) (sym q) in
     let is : slot_at s at ≡ Some e = sym c.at.ensures ∙ c.in-Some.is in
-    let home : c.home.result ≡ home_slot (length c.args.slots.now) e.hash = c.home.ensures.value ∙ ap (λ (n : ℕ). home_slot n e.hash) c.len-homes.ensures in
+    let home : c.home.result ≡ home_slot (length c.args.slots.now) e.hash =
+    c.home.ensures.value ∙ ap (λ (n : ℕ). home_slot n e.hash) c.len-homes.ensures in
     elim c.if-is_passed.branch [
       | then-is_passed w ↦
-          let passed : Passed (home_slot (length c.args.slots.now) e.hash) at free = subst (λ (h : ℕ). Passed h at free) home (c.is_passed.ensures.yes w.if-is_passed.true) in
+          let passed : Passed (home_slot (length c.args.slots.now) e.hash) at free =
+          subst (λ (h : ℕ). Passed h at free) home (c.is_passed.ensures.yes w.if-is_passed.true) in
           rw (w.slots-is, w.free-is, w.put-then-is_passed.ensures, w.put.ensures)
           (record {
             len = length-set (set s at None) free (Some e) ∙ length-set s at None ∙ i.len;

@@ -19,6 +19,7 @@ returns-in-Some-clause-sound g c =
     let e = c.close_part-in-Some.ensures in
     let len = c.close_part.ensures.len in
     let count : length (gather c.close_part-in-Some.new.slots) ≡ length (gather c.args.slots.now) = e.count ∙ c.close_part.ensures.count in
-    round c.args.slots.now c.close_part.new.slots c.close_part-in-Some.new.slots c.args.gap c.in-Some.moved (length c.args.slots.now) c.close_part-in-Some.result
+    round c.args.slots.now c.close_part.new.slots c.close_part-in-Some.new.slots c.args.gap c.in-Some.moved (length c.args.slots.now)
+    c.close_part-in-Some.result
     (e.len ∙ len) (let r = c.requires.room in omega (arith, r, count)) p
     (rw len at e.closed) (rw len at e.opened)

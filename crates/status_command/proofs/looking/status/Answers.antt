@@ -12,7 +12,8 @@ use Rattle.status_command.proofs.looking.status.Goals as goal
 pub returns-in-Err-clause-kept : goal.returns-in-Err-clause-kept
 returns-in-Err-clause-kept g c file faults =
     let at = scene_with file faults g.R.Rack g.O.Sink in
-    kept_not status_needs (status_promise g.R.Disk.Disk c.args.hashes.now) (at c.args.rack.now c.args.out.now) (at c.open_nodes.new.rack c.args.out.now)
+    kept_not status_needs (status_promise g.R.Disk.Disk c.args.hashes.now) (at c.args.rack.now c.args.out.now)
+    (at c.open_nodes.new.rack c.args.out.now)
     (c.open_nodes.new.rack ≡ c.args.rack.now) (Unit {0}) (λ of. absurd of) (λ _. tt) (λ name. refl)
     c.in-Err.fault (refusal_fault (λ file. ⊥) (λ file. ⊥) c.in-Err.fault c.in-Err.ensures.kind) (c.in-Err.ensures.refusal, c.in-Err.ensures.back.held)
     (λ before. absurd (not_refused c.in-Err.fault c.in-Err.ensures.kind before)) (inr c.in-Err.ensures.back.held) refl refl
@@ -20,8 +21,10 @@ returns-in-Err-clause-kept g c file faults =
 pub returns-in_default-clause-kept : goal.returns-in_default-clause-kept
 returns-in_default-clause-kept g c file faults =
     let at = scene_with file faults g.R.Rack g.O.Sink in
-    let back = all_back g.R.Disk.Disk (g.R.Rack.held c.args.rack.now) c.in-Ok.nodes.header c.in-Ok.nodes.logs.items c.in-Ok.nodes.shards.items c.in-Ok.ensures.opened.nodes
-    (g.R.Rack.held c.open_nodes.new.rack) (g.R.Rack.held c.close_nodes.new.rack) c.in-Ok.ensures.opened.others_held c.close_nodes.ensures.closed_logs c.close_nodes.ensures.closed_shards c.close_nodes.ensures.others_held
+    let back = all_back g.R.Disk.Disk (g.R.Rack.held c.args.rack.now) c.in-Ok.nodes.header c.in-Ok.nodes.logs.items c.in-Ok.nodes.shards.items
+    c.in-Ok.ensures.opened.nodes
+    (g.R.Rack.held c.open_nodes.new.rack) (g.R.Rack.held c.close_nodes.new.rack) c.in-Ok.ensures.opened.others_held c.close_nodes.ensures.closed_logs
+    c.close_nodes.ensures.closed_shards c.close_nodes.ensures.others_held
     (g.R.Rack.count c.args.rack.now) (g.R.Rack.count c.close_nodes.new.rack) in
     record {
       cause = tt;
@@ -44,12 +47,16 @@ returns-in-Ok-write_statuses-clause-kept g c file faults =
     let printed = IsPrinted (g.O.Sink.taken c.args.out.now) (g.O.Sink.taken c.write_statuses.new.out) answers.Ok in
     let few : length c.in-Ok.nodes.shards.items ≤ 64 =
     few_shards g.R.Disk.Disk held nodes.header nodes.logs.items nodes.shards.items c.in-Ok.ensures.opened.nodes in
-    let same : c.deref.result.now ≡ map (status_among c.in-Ok.nodes.shards.items) c.args.hashes.now = c.deref.ensures.value ∙ c.in-Ok-told.ensures few in
-    kept_done status_needs (status_promise g.R.Disk.Disk c.args.hashes.now) (at c.args.rack.now c.args.out.now) (at c.close_nodes.new.rack c.write_statuses.new.out)
+    let same : c.deref.result.now ≡ map (status_among c.in-Ok.nodes.shards.items) c.args.hashes.now =
+    c.deref.ensures.value ∙ c.in-Ok-told.ensures few in
+    kept_done status_needs (status_promise g.R.Disk.Disk c.args.hashes.now) (at c.args.rack.now c.args.out.now)
+    (at c.close_nodes.new.rack c.write_statuses.new.out)
     (c.close_nodes.new.rack ≡ c.args.rack.now) (Unit {0}) (λ of. absurd of) (λ _. tt) (λ name. refl)
     (did_status g.R.Disk.Disk held nodes.header nodes.logs.items nodes.shards.items c.in-Ok.ensures.opened.nodes
-    (g.R.Rack.held c.open_nodes.new.rack) (g.R.Rack.held c.close_nodes.new.rack) c.in-Ok.ensures.opened.others_held c.close_nodes.ensures.closed_logs c.close_nodes.ensures.closed_shards c.close_nodes.ensures.others_held
-    (g.R.Rack.count c.args.rack.now) (g.R.Rack.count c.close_nodes.new.rack) printed c.args.hashes.now (subst (λ ss. printed (told_lines c.args.hashes.now ss)) same c.in-Ok-write_statuses.ensures.prints)) c.write_statuses.ensures.cause.later
+    (g.R.Rack.held c.open_nodes.new.rack) (g.R.Rack.held c.close_nodes.new.rack) c.in-Ok.ensures.opened.others_held c.close_nodes.ensures.closed_logs
+    c.close_nodes.ensures.closed_shards c.close_nodes.ensures.others_held
+    (g.R.Rack.count c.args.rack.now) (g.R.Rack.count c.close_nodes.new.rack) printed c.args.hashes.now
+    (subst (λ ss. printed (told_lines c.args.hashes.now ss)) same c.in-Ok-write_statuses.ensures.prints)) c.write_statuses.ensures.cause.later
 
 pub returns-clause-kept : goal.returns-clause-kept
 returns-clause-kept g c file faults =
@@ -59,12 +66,16 @@ returns-clause-kept g c file faults =
     let printed = IsPrinted (g.O.Sink.taken c.args.out.now) (g.O.Sink.taken c.write_statuses.new.out) answers.WriteFault in
     let few : length c.in-Ok.nodes.shards.items ≤ 64 =
     few_shards g.R.Disk.Disk held nodes.header nodes.logs.items nodes.shards.items c.in-Ok.ensures.opened.nodes in
-    let same : c.deref.result.now ≡ map (status_among c.in-Ok.nodes.shards.items) c.args.hashes.now = c.deref.ensures.value ∙ c.in-Ok-told.ensures few in
-    kept_cut status_needs (status_promise g.R.Disk.Disk c.args.hashes.now) (at c.args.rack.now c.args.out.now) (at c.close_nodes.new.rack c.write_statuses.new.out)
+    let same : c.deref.result.now ≡ map (status_among c.in-Ok.nodes.shards.items) c.args.hashes.now =
+    c.deref.ensures.value ∙ c.in-Ok-told.ensures few in
+    kept_cut status_needs (status_promise g.R.Disk.Disk c.args.hashes.now) (at c.args.rack.now c.args.out.now)
+    (at c.close_nodes.new.rack c.write_statuses.new.out)
     (c.close_nodes.new.rack ≡ c.args.rack.now) (Unit {0}) (λ of. absurd of) (λ _. tt) (λ name. refl)
     (did_status g.R.Disk.Disk held nodes.header nodes.logs.items nodes.shards.items c.in-Ok.ensures.opened.nodes
-    (g.R.Rack.held c.open_nodes.new.rack) (g.R.Rack.held c.close_nodes.new.rack) c.in-Ok.ensures.opened.others_held c.close_nodes.ensures.closed_logs c.close_nodes.ensures.closed_shards c.close_nodes.ensures.others_held
-    (g.R.Rack.count c.args.rack.now) (g.R.Rack.count c.close_nodes.new.rack) printed c.args.hashes.now (subst (λ ss. printed (told_lines c.args.hashes.now ss)) same c.in-Err-write_statuses.ensures.prints))
+    (g.R.Rack.held c.open_nodes.new.rack) (g.R.Rack.held c.close_nodes.new.rack) c.in-Ok.ensures.opened.others_held c.close_nodes.ensures.closed_logs
+    c.close_nodes.ensures.closed_shards c.close_nodes.ensures.others_held
+    (g.R.Rack.count c.args.rack.now) (g.R.Rack.count c.close_nodes.new.rack) printed c.args.hashes.now
+    (subst (λ ss. printed (told_lines c.args.hashes.now ss)) same c.in-Err-write_statuses.ensures.prints))
     c.in-Err-write_statuses.ensures.cause.failed c.write_statuses.ensures.cause.later
 
 pub returns-in-Err-clause-back : goal.returns-in-Err-clause-back

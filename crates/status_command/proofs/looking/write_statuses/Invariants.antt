@@ -7,5 +7,6 @@ use Rattle.status_command.proofs.looking.write_statuses.Given as goal
 abbrev pub invariant-hashes : goal.invariant-hashes
 invariant-hashes g l = record {
   count : g.O.Sink.count l.initial.out ≤ g.O.Sink.count l.out;
-  text : Goes (g.O.Sink.taken l.initial.out) (g.O.Sink.taken l.out) (told_lines l.hashes l.statuses) (zip_first l.hash-iterator).rest.now (zip_second l.hash-iterator).rest.now;
+  text : Goes (g.O.Sink.taken l.initial.out) (g.O.Sink.taken l.out) (told_lines l.hashes l.statuses) (zip_first l.hash-iterator).rest.now
+      (zip_second l.hash-iterator).rest.now;
 }

@@ -10,4 +10,5 @@ returns c =
     c.in_ok-extend_from_slice.ensures.items
     ∙ ap (λ (x : List ℕ). x ++ (((32 ∷ 48 ∷ []) ++ 32 ∷ word true) ++ 10 ∷ [])) c.in_ok-push_id.ensures
     ∙ joined c.args.text.now.items (encode_lower c.args.id.now) (32 ∷ 48 ∷ []) (32 ∷ word true) (10 ∷ [])
-    ∙ ap (λ (x : List ℕ). c.args.text.now.items ++ (((encode_lower c.args.id.now ++ 32 ∷ x) ++ 32 ∷ word true) ++ 10 ∷ [])) (sym (decimal_digit 0 (omega arith)))
+    ∙ ap (λ (x : List ℕ). c.args.text.now.items ++ (((encode_lower c.args.id.now ++ 32 ∷ x) ++ 32 ∷ word true) ++ 10 ∷ []))
+    (sym (decimal_digit 0 (omega arith)))

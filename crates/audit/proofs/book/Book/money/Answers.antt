@@ -8,6 +8,12 @@ overflow_add-money c = omega (arith, ap length c.in-Some.ensures.steps, c.money_
 
 pub outputs-preserved : goal.outputs-preserved
 outputs-preserved c = (
-  omega (arith, ap (sum_by money_of) c.in-Some.ensures.steps, sum_by-cons money_of c.in-Some.output.now c.next.new.self, c.money_in-money.ensures.value, c.outputs.invariant.0),
+  omega (
+    arith,
+    ap (sum_by money_of) c.in-Some.ensures.steps,
+    sum_by-cons money_of c.in-Some.output.now c.next.new.self,
+    c.money_in-money.ensures.value,
+    c.outputs.invariant.0,
+  ),
   omega (arith, ap length c.in-Some.ensures.steps, c.money_in-money.ensures.small, c.outputs.invariant.1),
 )

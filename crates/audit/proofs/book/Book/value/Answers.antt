@@ -9,6 +9,12 @@ overflow_add-value c = omega (arith, ap length c.in-Some.ensures.steps, c.worth_
 pub outputs-preserved : goal.outputs-preserved
 outputs-preserved c =
     let f : Output → ℕ = λ o. o.value in (
-      omega (arith, ap (sum_by f) c.in-Some.ensures.steps, sum_by-cons f c.in-Some.output.now c.next.new.self, c.worth_of-value.ensures.value, c.outputs.invariant.0),
+      omega (
+        arith,
+        ap (sum_by f) c.in-Some.ensures.steps,
+        sum_by-cons f c.in-Some.output.now c.next.new.self,
+        c.worth_of-value.ensures.value,
+        c.outputs.invariant.0,
+      ),
       omega (arith, ap length c.in-Some.ensures.steps, c.worth_of-value.ensures.small, c.outputs.invariant.1),
     )

@@ -10,13 +10,15 @@ use Rattle.audit.proofs.folding.Fold.spend.Goals as goal
 pub returns-in_default : goal.returns-in_default
 returns-in_default c = λ mint forms index h.
     let none : first_with c.args.handed.now c.args.form.now ≡ None
-    = subst (λ o. MatchOption o (first_with c.args.handed.now c.args.form.now ≡ None) (λ t. first_with c.args.handed.now c.args.form.now ≡ Some t.now)) c.in_default.is (c.first_with.ensures index) in
+    = subst (λ o. MatchOption o (first_with c.args.handed.now c.args.form.now ≡ None)
+    (λ t. first_with c.args.handed.now c.args.form.now ≡ Some t.now)) c.in_default.is (c.first_with.ensures index) in
     (h.left, h.are_spent, (refl, none))
 
 pub returns-then-not-branch : goal.returns-then-not-branch
 returns-then-not-branch c = λ mint forms index h.
     let first : first_with c.args.handed.now c.args.form.now ≡ Some c.in-Some.tx.now
-    = subst (λ o. MatchOption o (first_with c.args.handed.now c.args.form.now ≡ None) (λ t. first_with c.args.handed.now c.args.form.now ≡ Some t.now)) c.in-Some.is (c.first_with.ensures index) in (
+    = subst (λ o. MatchOption o (first_with c.args.handed.now c.args.form.now ≡ None)
+    (λ t. first_with c.args.handed.now c.args.form.now ≡ Some t.now)) c.in-Some.is (c.first_with.ensures index) in (
       h.left,
       h.are_spent,
       (
@@ -33,7 +35,8 @@ returns-then-not-branch c = λ mint forms index h.
 pub returns : goal.returns
 returns c = λ mint forms index h.
     let first : first_with c.args.handed.now c.args.form.now ≡ Some c.in-Some.tx.now
-    = subst (λ o. MatchOption o (first_with c.args.handed.now c.args.form.now ≡ None) (λ t. first_with c.args.handed.now c.args.form.now ≡ Some t.now)) c.in-Some.is (c.first_with.ensures index) in
+    = subst (λ o. MatchOption o (first_with c.args.handed.now c.args.form.now ≡ None)
+    (λ t. first_with c.args.handed.now c.args.form.now ≡ Some t.now)) c.in-Some.is (c.first_with.ensures index) in
     spent_more mint c.args.handed.now forms c.args.form.now c.in-Some.tx.now c.args.self.now c.count.new.self h first
     (λ b k. subst (λ m. HasRest true m (spend b c.in-Some.tx.now)) (sym c.in_ok-count.ensures.book)
     (subst (λ t. HasRest t c.spend.new.self (spend b c.in-Some.tx.now)) c.if-not-branch.false (c.in_ok-spend.ensures b k)))
@@ -42,5 +45,6 @@ returns c = λ mint forms index h.
 pub spend-requires : goal.spend-requires
 spend-requires c =
     let first : first_with c.args.handed.now c.args.form.now ≡ Some c.in-Some.tx.now
-    = subst (λ o. MatchOption o (first_with c.args.handed.now c.args.form.now ≡ None) (λ t. first_with c.args.handed.now c.args.form.now ≡ Some t.now)) c.in-Some.is (c.first_with.ensures c.requires.index) in
+    = subst (λ o. MatchOption o (first_with c.args.handed.now c.args.form.now ≡ None)
+    (λ t. first_with c.args.handed.now c.args.form.now ≡ Some t.now)) c.in-Some.is (c.first_with.ensures c.requires.index) in
     first_has_id c.args.handed.now c.args.form.now c.in-Some.tx.now first

@@ -11,7 +11,8 @@ returns-then-contains_key c = λ txs tx at id h.
 
 pub returns : goal.returns
 returns c = λ txs tx at id h.
-    index_new txs tx c.args.self.now _ h (ap (λ x. is_some (first_with_id c.args.self.now x)) (sym id) ∙ sym c.contains_key.ensures ∙ c.if-contains_key.false)
+    index_new txs tx c.args.self.now _ h (ap (λ x. is_some (first_with_id c.args.self.now x)) (sym id) ∙ sym c.contains_key.ensures
+    ∙ c.if-contains_key.false)
     (λ x.
     c.in_ok-insert.ensures.updates.0 x ∙ ap (λ y. cond (eq-value.it y x) (Some c.args.at) (first_with_id c.args.self.now x)) id
     ∙ ap (λ n. cond (eq-value.it (tx_id tx) x) (Some n) (first_with_id c.args.self.now x)) (sym at))

@@ -17,7 +17,8 @@ entries-preserved c = λ y.
     elim c.if-is_held.branch [
       | then-is_held+in_ok-set_here w ↦
           over_step _ _ _ h v (says c.entries.self y) _ (held_more es [] at a cut y (sym c.is_held.ensures ∙ w.if-is_held.true))
-          (ap (λ s. says s y) w.self-is ∙ w.in_ok-set_here.ensures y ∙ ap (λ l. if has l y && h then v else says c.entries.self y) w.as_slice-inputs.ensures) ∙ before
+          (ap (λ s. says s y) w.self-is ∙ w.in_ok-set_here.ensures y
+          ∙ ap (λ l. if has l y && h then v else says c.entries.self y) w.as_slice-inputs.ensures) ∙ before
       | else-is_held w ↦
           ap (λ s. if has (held_inputs (drop (at + 1) es)) y && h then v else says s y) w.self-is
           ∙ over_none _ _ h v (says c.entries.self y) (held_same es [] at a cut y (sym c.is_held.ensures ∙ w.if-is_held.false)) ∙ before

@@ -12,6 +12,8 @@ hashes-preserved c = λ y.
     let before = c.hashes.invariant y in
     elim c.if-is_here.branch [
       | then-is_here+in_ok-set w ↦
-          hash_here (is_here K c.args.node) x y _ _ _ _ _ _ cut (sym c.is_here.ensures ∙ w.if-is_here.true) (ap (λ s. says s y) w.self-is) (w.in_ok-set.ensures y) ∙ before
-      | else-is_here w ↦ hash_away (is_here K c.args.node) x y _ _ _ _ _ cut (sym c.is_here.ensures ∙ w.if-is_here.false) (ap (λ s. says s y) w.self-is) ∙ before
+          hash_here (is_here K c.args.node) x y _ _ _ _ _ _ cut (sym c.is_here.ensures ∙ w.if-is_here.true) (ap (λ s. says s y) w.self-is)
+          (w.in_ok-set.ensures y) ∙ before
+      | else-is_here w ↦ hash_away (is_here K c.args.node) x y _ _ _ _ _ cut (sym c.is_here.ensures ∙ w.if-is_here.false)
+          (ap (λ s. says s y) w.self-is) ∙ before
     ]

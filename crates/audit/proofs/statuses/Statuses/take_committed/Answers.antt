@@ -18,15 +18,20 @@ entries-preserved c = λ y.
     elim c.if-ds-at.branch [
       | then-ds-at+in_ok-set_here w ↦
           let a = w.index-es-at.result in
-          over_step _ _ _ h Absent (says c.entries.self y) _ (taken_more es ds at a (drop_at es at a lt w.index-es-at.is) y (drop_bool ds at _ less w.if-ds-at.true))
-          (ap (λ s. says s y) w.self-is ∙ w.in_ok-set_here.ensures y ∙ ap (λ l. if has l y && h then Absent else says c.entries.self y) (w.as_slice-inputs.ensures ∙ ap (λ e. e.entry.inputs) (sym w.index-es-at.is))) ∙ before
+          over_step _ _ _ h Absent (says c.entries.self y) _
+          (taken_more es ds at a (drop_at es at a lt w.index-es-at.is) y (drop_bool ds at _ less w.if-ds-at.true))
+          (ap (λ s. says s y) w.self-is ∙ w.in_ok-set_here.ensures y
+          ∙ ap (λ l. if has l y && h then Absent else says c.entries.self y)
+          (w.as_slice-inputs.ensures ∙ ap (λ e. e.entry.inputs) (sym w.index-es-at.is))) ∙ before
       | else-ds-at w ↦
           let a = there es at lt in
           ap (λ s. if has (taken_inputs (drop (at + 1) es) (drop (at + 1) ds)) y && h then Absent else says s y) w.self-is
-          ∙ over_none _ _ h Absent (says c.entries.self y) (taken_same es ds at a.0 (drop_at es at a.0 lt a.1) y (drop_bool ds at _ less w.if-ds-at.false)) ∙ before
+          ∙ over_none _ _ h Absent (says c.entries.self y)
+          (taken_same es ds at a.0 (drop_at es at a.0 lt a.1) y (drop_bool ds at _ less w.if-ds-at.false)) ∙ before
     ]
 
 pub returns : goal.returns
 returns c = λ y.
     let h = is_here c.args.shape.now c.args.node y in
-    ap (λ l. if has l y && h then Absent else says c.entries.self y) (sym (no_taken c.args.es.now c.args.ds.now c.entries.at (λ p q. omega (arith, p, q)))) ∙ c.entries.invariant y
+    ap (λ l. if has l y && h then Absent else says c.entries.self y)
+    (sym (no_taken c.args.es.now c.args.ds.now c.entries.at (λ p q. omega (arith, p, q)))) ∙ c.entries.invariant y

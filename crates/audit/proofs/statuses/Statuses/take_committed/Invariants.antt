@@ -5,5 +5,6 @@ use Rattle.audit.specs.Standing.{says, is_here}
 use Rattle.audit.proofs.statuses.Statuses.take_committed.Given as goal
 
 abbrev pub invariant-entries : goal.invariant-entries
-invariant-entries l = (y : Digest) → (if has (taken_inputs (drop l.at l.es) (drop l.at l.ds)) y && is_here l.shape l.node y then Absent else says l.self y)
+invariant-entries l = (y : Digest) → (if has (taken_inputs (drop l.at l.es) (drop l.at l.ds)) y && is_here l.shape l.node y then Absent
+    else says l.self y)
     ≡ (if has (taken_inputs l.es l.ds) y && is_here l.shape l.node y then Absent else says l.initial.self y)

@@ -27,4 +27,5 @@ returns-clause-next c = λ within.
     )
 
 pub outcomes-requires-clause-rising : goal.outcomes-requires-clause-rising
-outcomes-requires-clause-rising c = rises_within 0 c.args.self.now.header.shape.shards 64 c.args.replies.now (omega (arith, c.self.invariant.limits.shards, ap (λ v. v.header.shape.shards) c.self.view_is)) c.requires.rising
+outcomes-requires-clause-rising c = rises_within 0 c.args.self.now.header.shape.shards 64 c.args.replies.now
+    (omega (arith, c.self.invariant.limits.shards, ap (λ v. v.header.shape.shards) c.self.view_is)) c.requires.rising

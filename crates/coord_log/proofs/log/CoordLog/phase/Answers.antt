@@ -9,4 +9,5 @@ returns g c =
     let on = c.self.invariant.on in
     let did = c.phase.ensures in
     subst (λ l. slot_of c.phase.result ≡ slot l.journal c.args.lane) c.self.view_is
-    (slot_there c.self.inside.node.core c.self.inside.node.log.header _ c.args.lane (slot_of c.phase.result) on.header did.whole.node on.stands on.node.journal did.own did.other)
+    (slot_there c.self.inside.node.core c.self.inside.node.log.header _ c.args.lane (slot_of c.phase.result) on.header did.whole.node on.stands
+    on.node.journal did.own did.other)

@@ -13,8 +13,10 @@ returns-clause-room c =
     let count : c.len-count.result ≡ length c.parts.inside.items.items = c.len-count.ensures ∙ ap length same in
     record {
       parts = subst (λ n. AreShards shard n c.parts.inside.items.items) c.shards.ensures.value
-          (subst (λ (ps : List (ℕ × List Entry)). AreShards shard c.shards.result ps) (c.as_slice.ensures ∙ same) (c.if-not-is_division.ensures.shards refl));
-      small = subst (λ (ps : List (ℕ × List Entry)). All (λ (p : ℕ × List Entry). length p.1 ≤ length c.args.txs.now) ps) (c.as_slice.ensures ∙ same) (c.if-not-is_division.ensures.small refl);
+          (subst (λ (ps : List (ℕ × List Entry)). AreShards shard c.shards.result ps) (c.as_slice.ensures ∙ same)
+          (c.if-not-is_division.ensures.shards refl));
+      small = subst (λ (ps : List (ℕ × List Entry)). All (λ (p : ℕ × List Entry). length p.1 ≤ length c.args.txs.now) ps) (c.as_slice.ensures ∙ same)
+          (c.if-not-is_division.ensures.small refl);
       no_locks = c.in_ok-with_capacity.ensures.items;
       locks = subst (λ n. n ≤ vec_capacity c.in_ok-with_capacity.field-0) count c.in_ok-with_capacity.ensures.capacity;
       no_replied = c.in_ok-with_capacity-2.ensures.items;
@@ -27,4 +29,5 @@ returns-clause-room c =
     }
 
 pub returns-clause-parts : goal.returns-clause-parts
-returns-clause-parts c = subst (λ (ps : List (ℕ × List Entry)). AreParts c.args.shape.now c.args.txs.now ps) (sym {A = List (ℕ × List Entry)} c.parts.view_is) c.in_ok-parts.ensures
+returns-clause-parts c = subst (λ (ps : List (ℕ × List Entry)). AreParts c.args.shape.now c.args.txs.now ps)
+    (sym {A = List (ℕ × List Entry)} c.parts.view_is) c.in_ok-parts.ensures

@@ -10,10 +10,15 @@ pub invariant_of-result : goal.invariant_of-result
 invariant_of-result g c =
     let v = c.in_ok-with_capacity.field-0 in
     let m = c.div_ceil-room.result in
-    let few : length g.F.Deals.file ≤ count_of_lanes g.F.Deals.shape * m = subst (λ f. length f ≤ count_of_lanes g.F.Deals.shape * m) c.txs.ensures (subst (λ n. length c.txs.result.now ≤ n * m) c.lanes.ensures.lanes (room_ceil (length c.txs.result.now) c.lanes.result m c.lanes.ensures.some c.div_ceil-room.ensures)) in
-    let within : c.args.lane < count_of_lanes g.F.Deals.shape = subst (λ n. c.args.lane < n) (sym c.lanes.ensures.same ∙ c.lanes.ensures.lanes) c.requires in
+    let few : length g.F.Deals.file ≤ count_of_lanes g.F.Deals.shape * m =
+    subst (λ f. length f ≤ count_of_lanes g.F.Deals.shape * m) c.txs.ensures
+    (subst (λ n. length c.txs.result.now ≤ n * m) c.lanes.ensures.lanes
+    (room_ceil (length c.txs.result.now) c.lanes.result m c.lanes.ensures.some c.div_ceil-room.ensures)) in
+    let within : c.args.lane < count_of_lanes g.F.Deals.shape =
+    subst (λ n. c.args.lane < n) (sym c.lanes.ensures.same ∙ c.lanes.ensures.lanes) c.requires in
     record {
-      come = subst (λ xs. HasComeTo g.F.Deals.shape g.F.Deals.verdicts g.F.Deals.file c.args.lane c.args.lane 0 xs) (sym c.in_ok-with_capacity.ensures.items) (come_begin g.F.Deals.shape g.F.Deals.verdicts g.F.Deals.file c.args.lane within);
+      come = subst (λ xs. HasComeTo g.F.Deals.shape g.F.Deals.verdicts g.F.Deals.file c.args.lane c.args.lane 0 xs)
+          (sym c.in_ok-with_capacity.ensures.items) (come_begin g.F.Deals.shape g.F.Deals.verdicts g.F.Deals.file c.args.lane within);
       room = more (count_of_lanes g.F.Deals.shape) few (vec_capacity v) c.in_ok-with_capacity.ensures.capacity;
     }
   where

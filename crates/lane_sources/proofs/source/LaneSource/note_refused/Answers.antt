@@ -9,10 +9,16 @@ pub invariant_of-self : goal.invariant_of-self
 invariant_of-self g c =
     let at : c.self.inside.at ≡ c.args.self.now.at = ap (λ s. s.at) c.self.view_is in
     let inside : c.self.inside.at < length g.F.Deals.file = subst (λ a. a < length g.F.Deals.file) (sym at) c.requires.inside in
-    let said : SubmissionAt g.F.Deals.file c.self.inside.at (λ t. (c.args.id ≡ spec_id t) × IsFirstRefusal t (g.F.Deals.verdicts (spec_id t)) c.args.refusal) = subst (λ a. SubmissionAt g.F.Deals.file a (λ t. (c.args.id ≡ spec_id t) × IsFirstRefusal t (g.F.Deals.verdicts (spec_id t)) c.args.refusal)) (sym at) c.requires.refused in
+    let said : SubmissionAt g.F.Deals.file c.self.inside.at
+    (λ t. (c.args.id ≡ spec_id t) × IsFirstRefusal t (g.F.Deals.verdicts (spec_id t)) c.args.refusal) =
+    subst (λ a. SubmissionAt g.F.Deals.file a (λ t. (c.args.id ≡ spec_id t) × IsFirstRefusal t (g.F.Deals.verdicts (spec_id t)) c.args.refusal))
+    (sym at) c.requires.refused in
     record {
-      come = subst (λ n. HasComeTo g.F.Deals.shape g.F.Deals.verdicts g.F.Deals.file c.self.inside.lane (c.self.inside.at + n) c.self.inside.sent c.push_reserved.new.self.items) (sym c.lanes-lanes.ensures.lanes)
-          (subst (λ xs. HasComeTo g.F.Deals.shape g.F.Deals.verdicts g.F.Deals.file c.self.inside.lane (c.self.inside.at + count_of_lanes g.F.Deals.shape) c.self.inside.sent xs) (sym c.push_reserved.ensures.items)
-          (noted_refused g.F.Deals.shape g.F.Deals.verdicts g.F.Deals.file c.self.inside.lane c.self.inside.at c.self.inside.sent c.self.inside.checked.items c.self.invariant.come inside c.args.id c.args.refusal said));
+      come = subst (λ n. HasComeTo g.F.Deals.shape g.F.Deals.verdicts g.F.Deals.file c.self.inside.lane (c.self.inside.at + n) c.self.inside.sent
+          c.push_reserved.new.self.items) (sym c.lanes-lanes.ensures.lanes)
+          (subst (λ xs. HasComeTo g.F.Deals.shape g.F.Deals.verdicts g.F.Deals.file c.self.inside.lane
+          (c.self.inside.at + count_of_lanes g.F.Deals.shape) c.self.inside.sent xs) (sym c.push_reserved.ensures.items)
+          (noted_refused g.F.Deals.shape g.F.Deals.verdicts g.F.Deals.file c.self.inside.lane c.self.inside.at c.self.inside.sent
+          c.self.inside.checked.items c.self.invariant.come inside c.args.id c.args.refusal said));
       room = subst (λ m. length g.F.Deals.file ≤ count_of_lanes g.F.Deals.shape * m) (sym c.push_reserved.ensures.capacity) c.self.invariant.room;
     }

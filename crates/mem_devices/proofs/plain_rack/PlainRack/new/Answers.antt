@@ -5,7 +5,10 @@ use Rattle.mem_devices.proofs.Filled.{AreFilled, IsBlank, none_filled, one_fille
 use Rattle.mem_devices.proofs.plain_rack.PlainRack.new.Goals as goal
 
 pub places-init : goal.places-init
-places-init c = (ap length c.in_ok-places.ensures.items, subst (AreFilled (IsBlank c.args.nodes c.args.capacity)) (sym c.in_ok-places.ensures.items) (none_filled (IsBlank c.args.nodes c.args.capacity)))
+places-init c = (
+  ap length c.in_ok-places.ensures.items,
+  subst (AreFilled (IsBlank c.args.nodes c.args.capacity)) (sym c.in_ok-places.ensures.items) (none_filled (IsBlank c.args.nodes c.args.capacity)),
+)
 
 pub places-preserved : goal.places-preserved
 places-preserved c =
@@ -21,7 +24,8 @@ places-preserved c =
     (omega (arith, long, more, many), subst (AreFilled (IsBlank c.args.nodes c.args.capacity)) (sym c.in_ok-push.ensures.items) filled)
 
 pub invariant_of-result : goal.invariant_of-result
-invariant_of-result c = let many = c.places.invariant.0 in let past = c.places-test.false in let end = c.places.auto in record { whole = omega (arith, many, past, end) }
+invariant_of-result c = let many = c.places.invariant.0 in let past = c.places-test.false in let end = c.places.auto in
+    record { whole = omega (arith, many, past, end) }
 
 pub returns-clause-all : goal.returns-clause-all
 returns-clause-all c = all_in (IsBlank c.args.nodes c.args.capacity) c.places.places.items c.places.invariant.1

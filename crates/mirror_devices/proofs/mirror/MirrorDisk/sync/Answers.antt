@@ -13,23 +13,30 @@ invariant_of-self-clause-blamed g c = λ t. absurd (let z : true ≡ false = sym
 pub invariant_of-self-clause-even : goal.invariant_of-self-clause-even
 invariant_of-self-clause-even g c = λ f.
     subst (λ xs. AreEven g.D.Disk.size g.D.Disk.limit xs)
-    (sym (take_at c.sync_all.new.disks (drop (length c.sync_all.new.disks) c.args.self.now.disks.items) c.args.self.now.disks.len (omega (arith, c.sync_all.ensures.many, c.as_mut_slice.ensures.len))))
+    (sym (take_at c.sync_all.new.disks (drop (length c.sync_all.new.disks) c.args.self.now.disks.items) c.args.self.now.disks.len
+    (omega (arith, c.sync_all.ensures.many, c.as_mut_slice.ensures.len))))
     c.in-Ok.ensures.even
 
 pub invariant_of-self-clause-told : goal.invariant_of-self-clause-told
 invariant_of-self-clause-told g c = λ all f.
     subst (λ xs. IsSome (all_told (map g.D.Disk.content xs)))
-    (sym (take_at c.sync_all.new.disks (drop (length c.sync_all.new.disks) c.args.self.now.disks.items) c.args.self.now.disks.len (omega (arith, c.sync_all.ensures.many, c.as_mut_slice.ensures.len))))
-    (subst (λ o. IsSome (all_told o)) (sym c.in-Ok.ensures.same) (subst (λ xs. IsSome (all_told (map g.D.Disk.content xs))) (sym c.as_mut_slice.ensures.value) (c.args.self.now.told all c.if-self.false)))
+    (sym (take_at c.sync_all.new.disks (drop (length c.sync_all.new.disks) c.args.self.now.disks.items) c.args.self.now.disks.len
+    (omega (arith, c.sync_all.ensures.many, c.as_mut_slice.ensures.len))))
+    (subst (λ o. IsSome (all_told o)) (sym c.in-Ok.ensures.same)
+    (subst (λ xs. IsSome (all_told (map g.D.Disk.content xs))) (sym c.as_mut_slice.ensures.value) (c.args.self.now.told all c.if-self.false)))
 
 pub returns-in-Ok-clause-crash : goal.returns-in-Ok-clause-crash
 returns-in-Ok-clause-crash g c =
     subst (λ xs. NoMore (IsImageOf g.D.Disk.images c.args.self.now.disks.items) (IsImageOf g.D.Disk.images xs))
-    (sym (take_at c.sync_all.new.disks (drop (length c.sync_all.new.disks) c.args.self.now.disks.items) c.args.self.now.disks.len (omega (arith, c.sync_all.ensures.many, c.as_mut_slice.ensures.len))))
-    (subst (λ xs. NoMore (IsImageOf g.D.Disk.images xs) (IsImageOf g.D.Disk.images c.sync_all.new.disks)) c.as_mut_slice.ensures.value c.in-Ok.ensures.crash)
+    (sym (take_at c.sync_all.new.disks (drop (length c.sync_all.new.disks) c.args.self.now.disks.items) c.args.self.now.disks.len
+    (omega (arith, c.sync_all.ensures.many, c.as_mut_slice.ensures.len))))
+    (subst (λ xs. NoMore (IsImageOf g.D.Disk.images xs) (IsImageOf g.D.Disk.images c.sync_all.new.disks)) c.as_mut_slice.ensures.value
+    c.in-Ok.ensures.crash)
 
 pub returns-in-Err-clause-crash : goal.returns-in-Err-clause-crash
 returns-in-Err-clause-crash g c =
     subst (λ xs. NoMore (IsImageOf g.D.Disk.images c.args.self.now.disks.items) (IsImageOf g.D.Disk.images xs))
-    (sym (c.fail-in-Err.ensures.disks ∙ take_at c.sync_all.new.disks (drop (length c.sync_all.new.disks) c.args.self.now.disks.items) c.args.self.now.disks.len (omega (arith, c.sync_all.ensures.many, c.as_mut_slice.ensures.len))))
-    (subst (λ xs. NoMore (IsImageOf g.D.Disk.images xs) (IsImageOf g.D.Disk.images c.sync_all.new.disks)) c.as_mut_slice.ensures.value c.in-Err.ensures.crash)
+    (sym (c.fail-in-Err.ensures.disks ∙ take_at c.sync_all.new.disks (drop (length c.sync_all.new.disks) c.args.self.now.disks.items)
+    c.args.self.now.disks.len (omega (arith, c.sync_all.ensures.many, c.as_mut_slice.ensures.len))))
+    (subst (λ xs. NoMore (IsImageOf g.D.Disk.images xs) (IsImageOf g.D.Disk.images c.sync_all.new.disks)) c.as_mut_slice.ensures.value
+    c.in-Err.ensures.crash)

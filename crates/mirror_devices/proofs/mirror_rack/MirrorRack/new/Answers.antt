@@ -1,4 +1,5 @@
-use Rattle.std.proofs.Common.{◌≡◌, ◌<◌, ◌∙◌, ◌++◌, ◌∷◌, [], List, Option, Some, length, nat_lt, true, false, if◌then◌else◌, subst, sym, ap, arith, ℕ, Bool}
+use Rattle.std.proofs.Common.{◌≡◌, ◌<◌, ◌∙◌, ◌++◌, ◌∷◌, [], List, Option, Some, length, nat_lt, true, false, if◌then◌else◌, subst, sym, ap, arith, ℕ}
+use Rattle.std.proofs.Common.{Bool}
 use Rattle.std.proofs.lemmas.List.{length-append}
 use Rattle.mem_devices.proofs.Filled.{AreFilled, none_filled, one_filled, all_in, filled_at}
 use Rattle.mirror_devices.specs.Empty.{IsEmptyMirror, copies_at}
@@ -29,7 +30,8 @@ places-preserved c =
     (omega (arith, long, more, many), subst (AreFilled blank) (sym c.in_ok-push.ensures.items) filled)
 
 pub invariant_of-result : goal.invariant_of-result
-invariant_of-result c = let many = c.places.invariant.0 in let past = c.places-test.false in let end = c.places.auto in record { whole = omega (arith, many, past, end) }
+invariant_of-result c = let many = c.places.invariant.0 in let past = c.places-test.false in let end = c.places.auto in
+    record { whole = omega (arith, many, past, end) }
 
 pub returns-clause-all : goal.returns-clause-all
 returns-clause-all c = all_in (IsBlank c.args.coordinators c.args.nodes c.args.replicas c.args.capacity) c.places.places.items c.places.invariant.1
@@ -38,5 +40,6 @@ pub returns-clause-empty : goal.returns-clause-empty
 returns-clause-empty c n node low =
     let many = c.places.invariant.0 in
     let past = c.places-test.false in
-    let at = filled_at (IsBlank c.args.coordinators c.args.nodes c.args.replicas c.args.capacity) c.places.places.items c.places.invariant.1 n (omega (arith, low, many, past)) in
+    let at = filled_at (IsBlank c.args.coordinators c.args.nodes c.args.replicas c.args.capacity) c.places.places.items c.places.invariant.1 n
+    (omega (arith, low, many, past)) in
     (at.0, at.1, at.2 node)

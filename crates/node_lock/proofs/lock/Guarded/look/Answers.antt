@@ -11,5 +11,6 @@ returns-clause-looked g c =
     let lives = c.take-node.ensures.since (opening_of c.args.self.now) c.requires.seat.1 in (
       s,
       c.ask-answer.ensures,
-      looked first s (knows c.args.seat.now) (own_hand c.take-node.new.token.me.0) _ c.take-node.ensures.finds c.take-node.ensures.sees lives.1 (ap (λ m. own_hand m.0) c.leave.ensures.rests),
+      looked first s (knows c.args.seat.now) (own_hand c.take-node.new.token.me.0) _ c.take-node.ensures.finds c.take-node.ensures.sees lives.1
+          (ap (λ m. own_hand m.0) c.leave.ensures.rests),
     )

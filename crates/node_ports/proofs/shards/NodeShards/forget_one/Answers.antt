@@ -9,11 +9,14 @@ use Rattle.node_ports.proofs.shards.NodeShards.forget_one.Goals as goal
 
 pub forget-requires-clause-call : goal.forget-requires-clause-call
 forget-requires-clause-call g c =
-    let P : Sight → Type 0 = λ a. IsForgetCall a.header c.args.call.now in subst P (old_is sight c.args.self.now.nodes.items c.args.shard c.index_mut.result.now c.index_mut.result.now c.requires.place c.index_mut.ensures.value) c.requires.call
+    let P : Sight → Type 0 = λ a. IsForgetCall a.header c.args.call.now in
+    subst P (old_is sight c.args.self.now.nodes.items c.args.shard c.index_mut.result.now c.index_mut.result.now c.requires.place
+    c.index_mut.ensures.value) c.requires.call
 
 pub returns-clause-answer : goal.returns-clause-answer
 returns-clause-answer g c =
-    one_turned sight c.args.self.now.nodes.items c.args.shard c.index_mut.result.now _ c.requires.place c.index_mut.ensures.value (λ a b. Told true c.args.call.now.batch.lane false (forget_due c.args.call.now) a b c.forget.result) (search rules)
+    one_turned sight c.args.self.now.nodes.items c.args.shard c.index_mut.result.now _ c.requires.place c.index_mut.ensures.value
+    (λ a b. Told true c.args.call.now.batch.lane false (forget_due c.args.call.now) a b c.forget.result) (search rules)
 
 pub returns-clause-elsewhere : goal.returns-clause-elsewhere
 returns-clause-elsewhere g c =
@@ -21,15 +24,18 @@ returns-clause-elsewhere g c =
 
 pub returns-clause-nodes : goal.returns-clause-nodes
 returns-clause-nodes g c =
-    turned_nodes sight c.args.self.now.nodes.items c.args.shard c.index_mut.result.now _ c.requires.place c.index_mut.ensures.value (search (rules, c.forget.ensures.keeps.node))
+    turned_nodes sight c.args.self.now.nodes.items c.args.shard c.index_mut.result.now _ c.requires.place c.index_mut.ensures.value
+    (search (rules, c.forget.ensures.keeps.node))
 
 pub returns-clause-later : goal.returns-clause-later
 returns-clause-later g c =
-    turned_faults sight c.args.self.now.nodes.items c.args.shard c.index_mut.result.now _ c.requires.place c.index_mut.ensures.value (search (rules, c.forget.ensures.keeps.later))
+    turned_faults sight c.args.self.now.nodes.items c.args.shard c.index_mut.result.now _ c.requires.place c.index_mut.ensures.value
+    (search (rules, c.forget.ensures.keeps.later))
 
 pub returns-clause-holds : goal.returns-clause-holds
 returns-clause-holds g c =
-    turned_held sight c.args.self.now.nodes.items c.args.shard c.index_mut.result.now _ c.requires.place c.index_mut.ensures.value (IsNodeHeld g.D.Disk) (search (rules, c.forget.ensures.keeps.held))
+    turned_held sight c.args.self.now.nodes.items c.args.shard c.index_mut.result.now _ c.requires.place c.index_mut.ensures.value
+    (IsNodeHeld g.D.Disk) (search (rules, c.forget.ensures.keeps.held))
 
 pub returns-clause-told : goal.returns-clause-told
 returns-clause-told g c =

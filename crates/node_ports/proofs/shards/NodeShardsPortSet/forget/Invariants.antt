@@ -10,7 +10,8 @@ use Rattle.node_ports.proofs.shards.NodeShardsPortSet.forget.Given as goal
 abbrev pub invariant-calls : goal.invariant-calls
 invariant-calls g l = record {
   each : AllZip (StampTold) (take l.shard-index l.calls) l.out.items;
-  told : EachTold (ForgetAnswer true) (take l.shard-index l.calls) l.out.items (sight_at sight l.initial.self.nodes.items) (sight_at sight l.self.nodes.items);
+  told : EachTold (ForgetAnswer true) (take l.shard-index l.calls) l.out.items (sight_at sight l.initial.self.nodes.items)
+      (sight_at sight l.self.nodes.items);
   untouched : Others (take l.shard-index l.calls) (sight_at sight l.initial.self.nodes.items) (sight_at sight l.self.nodes.items);
   nodes : KeepNodes (sight_at sight l.initial.self.nodes.items) (sight_at sight l.self.nodes.items);
   filled : vec_len l.out ≡ l.shard-index;

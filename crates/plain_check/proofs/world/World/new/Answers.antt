@@ -7,5 +7,6 @@ use Rattle.plain_check.proofs.world.World.new.Goals as goal
 
 pub loop-n-preserved : goal.loop-n-preserved
 loop-n-preserved c =
-    let e = map-range_with_len_more (first_node c.args.shape.now (mint_by c.args.genesis.now c.args.hashes.now)) 0 c.loop-n.n c.loop-n.n (omega arith) in
+    let e = map-range_with_len_more (first_node c.args.shape.now (mint_by c.args.genesis.now c.args.hashes.now)) 0 c.loop-n.n c.loop-n.n
+    (omega arith) in
     grind (arith, common_steps, e)

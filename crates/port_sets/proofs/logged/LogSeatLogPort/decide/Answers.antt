@@ -28,7 +28,9 @@ returns-clause-outcomes g c =
     let called = c.in-Stamped.ensures.called in
     let lane = c.args.lane in
     let mine = mine_of h.lane (seat_sight sight c.args.self.now.seat) lane InPrepare not_prepare c.requires.phase in
-    let d : Decides lane c.args.replies.now called.0 called.1 (outs_of c.call.new.call) c.in-Stamped.answer = decided called.0 called.1 (Decide lane c.args.replies record { ref_ptr = c.args.out.ref_ptr; ghost_name = c.made-1.given; now = c.args.out.now }) c.call.new.call c.in-Stamped.answer called.2 in
+    let d : Decides lane c.args.replies.now called.0 called.1 (outs_of c.call.new.call) c.in-Stamped.answer =
+    decided called.0 called.1 (Decide lane c.args.replies record
+    { ref_ptr = c.args.out.ref_ptr; ghost_name = c.made-1.given; now = c.args.out.now }) c.call.new.call c.in-Stamped.answer called.2 in
     let f = subst (λ l. Found false l h.seen called.0.seen) mine (found_of first called.0 called.1 h g' called.3) in
     let fact : OnOk c.in-Stamped.answer (length c.in-Decide._out.now.items ≡ length (txs_at h.seen lane)) =
     subst (λ os. OnOk c.in-Stamped.answer (length os ≡ length (txs_at h.seen lane))) (ap outs_of c.in-Decide.is)
@@ -49,13 +51,18 @@ returns-clause-told g c =
     let new_s = seat_sight sight c.call.new.seat in
     let mine = mine_of h.lane old_s lane InPrepare not_prepare c.requires.phase in
     let old_is : seen_at at old_s at ≡ viewed first h = seen_here at old_s ∙ ap (λ o. viewed (opening_sight sight o) h) c.args.self.now.own.1 in
-    let new_is : seen_at at new_s at ≡ viewed first g' = seen_here at new_s ∙ ap (λ o. viewed (opening_sight sight o) g') c.in-Stamped.ensures.seat.1 in
-    let d : Decides lane c.args.replies.now called.0 called.1 (outs_of c.call.new.call) c.in-Stamped.answer = decided called.0 called.1 (Decide lane c.args.replies record { ref_ptr = c.args.out.ref_ptr; ghost_name = c.made-1.given; now = c.args.out.now }) c.call.new.call c.in-Stamped.answer called.2 in
+    let new_is : seen_at at new_s at ≡ viewed first g' = seen_here at new_s ∙ ap (λ o. viewed (opening_sight sight o) g') c.in-Stamped.ensures.seat.1
+    in
+    let d : Decides lane c.args.replies.now called.0 called.1 (outs_of c.call.new.call) c.in-Stamped.answer =
+    decided called.0 called.1 (Decide lane c.args.replies record
+    { ref_ptr = c.args.out.ref_ptr; ghost_name = c.made-1.given; now = c.args.out.now }) c.call.new.call c.in-Stamped.answer called.2 in
     let f = subst (λ l. Found false l h.seen called.0.seen) mine (found_of first called.0 called.1 h g' called.3) in
     let owed : Header → ℕ → Option ℕ → List Record → Due ℕ = λ k n. decide_due k.shape lane replies in
     let told : DecideAnswer false lane replies (viewed first h) (viewed first g') c.in-Stamped.answer = λ are.
-    lifted first called.0 called.1 h g' called.3 lane false owed c.in-Stamped.answer mine c.args.self.now.since (λ b J a r e. writes_whole b _ a r e) d.journal
-    (d.told (subst (λ xs. AreRepliedTo called.0.header.shape xs replies) (sym (same_txs lane h.seen called.0.seen f)) (subst (λ k. AreRepliedTo k.shape (txs_at h.seen lane) replies) (sym called.3.found.header) are))) in
+    lifted first called.0 called.1 h g' called.3 lane false owed c.in-Stamped.answer mine c.args.self.now.since (λ b J a r e. writes_whole b _ a r e)
+    d.journal
+    (d.told (subst (λ xs. AreRepliedTo called.0.header.shape xs replies) (sym (same_txs lane h.seen called.0.seen f))
+    (subst (λ k. AreRepliedTo k.shape (txs_at h.seen lane) replies) (sym called.3.found.header) are))) in
     subst (λ x. DecideAnswer false lane replies x (seen_at at new_s at) c.in-Stamped.answer) (sym old_is)
     (subst (λ y. DecideAnswer false lane replies (viewed first h) y c.in-Stamped.answer) (sym new_is) told)
 

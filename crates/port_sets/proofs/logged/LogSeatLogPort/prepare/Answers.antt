@@ -24,11 +24,15 @@ returns-clause-told g c =
     let new_s = seat_sight sight c.call.new.seat in
     let mine = mine_of h.lane old_s lane Idle not_idle c.requires.idle in
     let old_is : seen_at at old_s at ≡ viewed first h = seen_here at old_s ∙ ap (λ o. viewed (opening_sight sight o) h) c.args.self.now.own.1 in
-    let new_is : seen_at at new_s at ≡ viewed first g' = seen_here at new_s ∙ ap (λ o. viewed (opening_sight sight o) g') c.in-Prepared.ensures.seat.1 in
-    let told = lifted first called.0 called.1 h g' called.3 lane true (prepare_owed c.args.lane c.args.txs.now) c.in-Prepared.answer mine c.args.self.now.since
+    let new_is : seen_at at new_s at ≡ viewed first g' =
+    seen_here at new_s ∙ ap (λ o. viewed (opening_sight sight o) g') c.in-Prepared.ensures.seat.1 in
+    let told = lifted first called.0 called.1 h g' called.3 lane true (prepare_owed c.args.lane c.args.txs.now) c.in-Prepared.answer mine
+    c.args.self.now.since
     (λ b J a r e. writes_whole b _ a r e) called.2.journal called.2.told in
-    subst (λ x. Told false lane true (prepare_owed c.args.lane c.args.txs.now x.header x.capacity) x (seen_at at new_s at) c.in-Prepared.answer) (sym old_is)
-    (subst (λ y. Told false lane true (prepare_owed c.args.lane c.args.txs.now first.header first.capacity) (viewed first h) y c.in-Prepared.answer) (sym new_is) told)
+    subst (λ x. Told false lane true (prepare_owed c.args.lane c.args.txs.now x.header x.capacity) x (seen_at at new_s at) c.in-Prepared.answer)
+    (sym old_is)
+    (subst (λ y. Told false lane true (prepare_owed c.args.lane c.args.txs.now first.header first.capacity) (viewed first h) y c.in-Prepared.answer)
+    (sym new_is) told)
 
 pub returns-clause-keeps : goal.returns-clause-keeps
 returns-clause-keeps g c =

@@ -21,10 +21,13 @@ returns-clause-told g c =
     let lane = c.args.call.now.batch.lane in
     let old_is : seat_sight sight c.args.self.now.seat ≡ viewed first h = ap (λ o. viewed (opening_sight sight o) h) c.args.self.now.own.1 in
     let new_is : seat_sight sight c.call.new.seat ≡ viewed first g' = ap (λ o. viewed (opening_sight sight o) g') c.in-Stamped.ensures.seat.1 in
-    let told = lifted first called.0 called.1 h g' called.3 lane false (finish_owed c.args.call.now) c.in-Stamped.answer c.requires.mine.mine c.requires.mine.since
+    let told = lifted first called.0 called.1 h g' called.3 lane false (finish_owed c.args.call.now) c.in-Stamped.answer c.requires.mine.mine
+    c.requires.mine.since
     (λ b J a r e. writes_whole b _ a r e) called.2.journal called.2.told in
-    subst (λ x. Told false lane false (finish_owed c.args.call.now x.header x.capacity) x (seat_sight sight c.call.new.seat) c.in-Stamped.answer) (sym old_is)
-    (subst (λ y. Told false lane false (finish_owed c.args.call.now first.header first.capacity) (viewed first h) y c.in-Stamped.answer) (sym new_is) told)
+    subst (λ x. Told false lane false (finish_owed c.args.call.now x.header x.capacity) x (seat_sight sight c.call.new.seat) c.in-Stamped.answer)
+    (sym old_is)
+    (subst (λ y. Told false lane false (finish_owed c.args.call.now first.header first.capacity) (viewed first h) y c.in-Stamped.answer) (sym new_is)
+    told)
 
 pub returns-clause-keeps : goal.returns-clause-keeps
 returns-clause-keeps g c =
@@ -35,7 +38,8 @@ returns-clause-keeps g c =
     let called = c.in-Stamped.ensures.called in
     let old_is : seat_sight sight c.args.self.now.seat ≡ viewed first h = ap (λ o. viewed (opening_sight sight o) h) c.args.self.now.own.1 in
     let new_is : seat_sight sight c.call.new.seat ≡ viewed first g' = ap (λ o. viewed (opening_sight sight o) g') c.in-Stamped.ensures.seat.1 in
-    let node = still_seen first called.0 called.1 h g' called.3 (seat_sight sight c.args.self.now.seat) (seat_sight sight c.call.new.seat) old_is new_is in
+    let node = still_seen first called.0 called.1 h g' called.3 (seat_sight sight c.args.self.now.seat) (seat_sight sight c.call.new.seat) old_is
+    new_is in
     record {
       at_same = refl;
       node = node;

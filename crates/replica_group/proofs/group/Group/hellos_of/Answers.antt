@@ -8,8 +8,10 @@ pub members-preserved : goal.members-preserved
 members-preserved c =
     let g = c.args.self.now in
     elim c.if-is_greeted.branch [
-      | then-is_greeted+in_ok-put_hello w ↦ hellos_more (promoted c.args.self.now c.args.b) c.args.b c.args.term c.args.place c.members.n c.args.last.now c.members.all.items c.if-is_greeted.all.items c.members.invariant
+      | then-is_greeted+in_ok-put_hello w ↦ hellos_more (promoted c.args.self.now c.args.b) c.args.b c.args.term c.args.place c.members.n
+          c.args.last.now c.members.all.items c.if-is_greeted.all.items c.members.invariant
           (sym c.is_greeted.ensures ∙ w.if-is_greeted.true) (ap (λ v. v.items) w.all-is ∙ w.in_ok-put_hello.ensures)
-      | else-is_greeted w ↦ hellos_same (promoted c.args.self.now c.args.b) c.args.b c.args.term c.args.place c.members.n c.args.last.now c.members.all.items c.if-is_greeted.all.items c.members.invariant
+      | else-is_greeted w ↦ hellos_same (promoted c.args.self.now c.args.b) c.args.b c.args.term c.args.place c.members.n c.args.last.now
+          c.members.all.items c.if-is_greeted.all.items c.members.invariant
           (sym c.is_greeted.ensures ∙ w.if-is_greeted.false) (ap (λ v. v.items) w.all-is)
     ]

@@ -11,5 +11,6 @@ invariant_of-self-2 c = let own = c.self.inside in
     let count : length c.in_ok-known.known.items ≡ length (replicate {A = ℕ} c.len.result 0) = ap length c.in_ok-known.ensures in
     let few : length c.in_ok-known.known.items ≤ 4 =
     omega (arith, count, length-replicate {A = ℕ} c.len.result 0, c.len.ensures, own.known.ok.0, c.self.invariant.few_known) in
-    small_handed own.primary own.term (length own.known.items) (length c.in_ok-known.known.items) c.args.b own.members.len own.members.items c.deref_mut.result.now
+    small_handed own.primary own.term (length own.known.items) (length c.in_ok-known.known.items) c.args.b own.members.len own.members.items
+    c.deref_mut.result.now
     c.hand_over.new.members _ _ c.self.invariant own.members.ok.0 c.deref_mut.ensures.value c.hand_over.ensures few here other refl refl

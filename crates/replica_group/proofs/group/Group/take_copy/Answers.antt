@@ -6,5 +6,6 @@ use Rattle.replica_group.proofs.group.Group.take_copy.Goals as goal
 pub invariant_of-self-2 : goal.invariant_of-self-2
 invariant_of-self-2 c = let own = c.self.inside in
     let there : c.args.to < length own.members.items = subst (λ (g : Group). c.args.to < length g.members) (sym c.self.view_is) c.requires in
-    small_written own.primary own.term (length own.known.items) c.args.to own.members.len own.members.items c.deref_mut.result.now c.put_at.new.members _
+    small_written own.primary own.term (length own.known.items) c.args.to own.members.len own.members.items c.deref_mut.result.now
+    c.put_at.new.members _
     c.self.invariant own.members.ok.0 c.deref_mut.ensures.value there c.in_ok-count.ensures.ok refl

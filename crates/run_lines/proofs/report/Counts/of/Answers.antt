@@ -11,6 +11,8 @@ ones-preserved c =
     let slice = c.deref-one-items.ensures.value in
     let low : i < length cs = subst (λ l. i < length l) slice c.ones-test.true in
     let is : c.one-item.result ≡ get_or cs i c.one-item.result = subst (λ l. c.one-item.result ≡ get_or l i c.one-item.result) slice c.one-item.is in
-    counts_more c.ones.counts c.one.result c.more-counts.result (λ test. told_count test lanes (take i cs)) (λ test. one_where test (told_report lanes c.one-item.result.judgement)) (λ test. told_count test lanes (take (i + 1) cs))
+    counts_more c.ones.counts c.one.result c.more-counts.result (λ test. told_count test lanes (take i cs))
+    (λ test. one_where test (told_report lanes c.one-item.result.judgement)) (λ test. told_count test lanes (take (i + 1) cs))
     c.ones.invariant (subst (λ r. AreCounts c.one.result (λ test. one_where test r)) c.report_of.ensures c.one.ensures)
-    c.more-counts.ensures.confirmed c.more-counts.ensures.rejected c.more-counts.ensures.refused (λ test. count_next test lanes cs i c.one-item.result low is)
+    c.more-counts.ensures.confirmed c.more-counts.ensures.rejected c.more-counts.ensures.refused
+    (λ test. count_next test lanes cs i c.one-item.result low is)

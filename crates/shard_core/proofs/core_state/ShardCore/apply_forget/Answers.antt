@@ -19,7 +19,8 @@ invariant_of-self c =
       paired = rw slots (paired_set self.slots c.in-Forget.batch.lane _ self.paired refl);
       owes =
           let n = self.owes in
-          let more = owed_free self.slots c.in-Forget.batch.lane (Free c.in-Forget.batch.number c.in-Forget.stamp) lane (λ s h. past_owed s (q.1 s h)) in
+          let more = owed_free self.slots c.in-Forget.batch.lane (Free c.in-Forget.batch.number c.in-Forget.stamp) lane
+          (λ s h. past_owed s (q.1 s h)) in
           rw slots (omega (arith, n, more));
       room = self.room;
     }

@@ -30,12 +30,15 @@ invariant_of-self c =
       lanes = rw c.put.ensures (set_length self.slots c.in-Lock.batch.lane _ ∙ self.lanes);
       memories = rw c.swap_memory.ensures.after (set_length self.decisions.items c.in-Lock.batch.lane _ ∙ self.memories);
       clock = q.0.1;
-      memory = rw (c.put.ensures, c.swap_memory.ensures.after) (memory_both self.slots self.decisions.items c.in-Lock.batch.lane _ _ self.memory (rw k.0 k.3));
+      memory = rw (c.put.ensures, c.swap_memory.ensures.after)
+          (memory_both self.slots self.decisions.items c.in-Lock.batch.lane _ _ self.memory (rw k.0 k.3));
       paired = rw c.put.ensures (paired_set self.slots c.in-Lock.batch.lane _ self.paired (rw (k.0, k.1) (same_count c.in-Lock.entries)));
       owes =
           let n = self.owes in let m = k.2 in
           let e = ap hashes_in k.0 in
-          let more = owed_free self.slots c.in-Lock.batch.lane (Taken c.in-Lock.batch.number c.unwrap-ready.result.part c.unwrap-ready.result.replies c.in-Lock.stamp) lane (λ s h. idle_owed s (q.1 s h)) in
+          let more = owed_free self.slots c.in-Lock.batch.lane
+          (Taken c.in-Lock.batch.number c.unwrap-ready.result.part c.unwrap-ready.result.replies c.in-Lock.stamp) lane
+          (λ s h. idle_owed s (q.1 s h)) in
           rw c.put.ensures (omega (arith, n, m, e, more));
       room = let a = q.2.unspent in let b = c.lock_held.ensures.spare in let m = k.2 in omega (arith, a, b, m);
     }
@@ -49,8 +52,10 @@ returns-clause-stands c = λ J old.
     rw c.in-Lock.is
     (record {
       lanes = rw c.put.ensures
-          (lock_stands self.slots J c.in-Lock.stamp c.in-Lock.batch c.in-Lock.entries c.unwrap-ready.result.part c.unwrap-ready.result.replies old.lanes (sym k.0) (sym k.1));
+          (lock_stands self.slots J c.in-Lock.stamp c.in-Lock.batch c.in-Lock.entries c.unwrap-ready.result.part c.unwrap-ready.result.replies
+          old.lanes (sym k.0) (sym k.1));
       last = refl;
-      hashes = agrees_lock J c.in-Lock.stamp c.in-Lock.batch c.in-Lock.entries self.unspent.hashes c.lock_held.new.unspent.hashes self.locks.held c.lock_held.new.locks.held
+      hashes = agrees_lock J c.in-Lock.stamp c.in-Lock.batch c.in-Lock.entries self.unspent.hashes c.lock_held.new.unspent.hashes self.locks.held
+          c.lock_held.new.locks.held
           old.hashes moved.unspent moved.locks;
     })

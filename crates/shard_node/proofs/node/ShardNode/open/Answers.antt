@@ -11,5 +11,6 @@ returns-in-Ok-memory_ahead-clause-opens g c = λ bytes told.
     let old = c.in-Ok.found in
     let new = c.memory_ahead.new.node in
     let m = c.memory_ahead.ensures in
-    let same = c.of_parts.ensures ∙ ap (λ k. shown new.log k new.flight) m.fresh.0 ∙ ap (λ f. shown new.log old.opened f) m.fresh.1 ∙ shown_same old.log new.log old.opened old.flight m.untouched m.records m.header in
+    let same = c.of_parts.ensures ∙ ap (λ k. shown new.log k new.flight) m.fresh.0 ∙ ap (λ f. shown new.log old.opened f) m.fresh.1
+    ∙ shown_same old.log new.log old.opened old.flight m.untouched m.records m.header in
     subst P (sym same) (c.in-Ok.ensures.opens bytes told)

@@ -14,7 +14,8 @@ pub index_mut-requires-2 : goal.index_mut-requires-2
 index_mut-requires-2 g c =
     let n = rows_length (λ v. v.items) c.self.inside.pages.items c.self.invariant.0 in
     let r = rw (← c.self.view_is) at c.requires in
-    let fits = row_fits (λ v. v.items) c.self.inside.pages.items (c.args.i / 256) c.index_mut.result.now c.self.invariant.0 (omega (arith, n, r)) c.index_mut.ensures.value in
+    let fits = row_fits (λ v. v.items) c.self.inside.pages.items (c.args.i / 256) c.index_mut.result.now c.self.invariant.0 (omega (arith, n, r))
+    c.index_mut.ensures.value in
     let ok = c.index_mut.result.now.ok.0 in
     omega (arith, fits, ok)
 
@@ -25,4 +26,5 @@ returns g c =
     let a : c.args.i / 256 < length c.self.inside.pages.items = omega (arith, n, r) in
     rw (← c.self.view_is)
     (row_set (λ v. v.items) c.self.inside.pages.items (c.args.i / 256) (c.args.i % 256) c.args.i c.index_mut.result.now
-    (with_item c.index_mut.result.now (c.args.i % 256) c.args.slot) c.args.slot c.self.invariant.0 a c.index_mut.ensures.value (omega arith) (omega arith) refl)
+    (with_item c.index_mut.result.now (c.args.i % 256) c.args.slot) c.args.slot c.self.invariant.0 a c.index_mut.ensures.value (omega arith)
+    (omega arith) refl)

@@ -11,7 +11,8 @@ insert-requires-clause-room c =
     rw (← c.self.view_is) at c.requires absent
 
 pub returns-then-is_none-clause-members : goal.returns-then-is_none-clause-members
-returns-then-is_none-clause-members c = rw (← c.self.view_is) (put_members c.self.inside.slots.entries c.insert.new.self.entries c.args.x tt c.insert.ensures.kept)
+returns-then-is_none-clause-members c = rw (← c.self.view_is)
+    (put_members c.self.inside.slots.entries c.insert.new.self.entries c.args.x tt c.insert.ensures.kept)
 
 pub returns-then-is_none-clause-len : goal.returns-then-is_none-clause-len
 returns-then-is_none-clause-len c =

@@ -4,7 +4,8 @@ use Rattle.shard_table.proofs.Keys.{keys, has_is, cut_members, keys_length}
 use Rattle.shard_table.proofs.table.Table.remove.Goals as goal
 
 pub returns-clause-members : goal.returns-clause-members
-returns-clause-members c = rw (← c.self.view_is) (cut_members c.self.inside.slots.entries c.remove.new.self.entries c.args.x.now c.remove.ensures.kept)
+returns-clause-members c = rw (← c.self.view_is) (cut_members c.self.inside.slots.entries c.remove.new.self.entries c.args.x.now
+    c.remove.ensures.kept)
 
 pub returns-clause-len : goal.returns-clause-len
 returns-clause-len c =
