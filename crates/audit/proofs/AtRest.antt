@@ -1,6 +1,6 @@
 -- Where every batch that was prepared is done, every lane is idle at its coordinator.
 use Rattle.std.proofs.Common.{◌≡◌, ◌⊎◌, inl, inr, ℕ, ◌/◌, ◌<◌, true, false, ◌&&◌, ◌==◌, List, ◌++◌, Some, None, is_some, refl, arith}
-use Rattle.cbdc_model.specs.Records.{Shape, Batch, Compact, Record, Row, journal, record_of, kind_of, is_of, Genesis, Lock, Finish, Forget}
+use Rattle.cbdc_model.specs.Records.{Shape, Batch, Compact, Record, Row, journal, record_of, kind_of, is_of, Genesis, Lock, Finish, Forget, Carry}
 use Rattle.cbdc_model.specs.Slots.{slot, Idle, InLock, InFinish, InPrepare, InCommit, InDiscard}
 use Rattle.cbdc_model.specs.Grammar.{IsInGrammar}
 use Rattle.cbdc_model.specs.History.{Minted, header_of, first_rows}
@@ -23,6 +23,7 @@ not_home K h minting kind (Lock stamp c es) low which k g = omega (arith, low, g
 not_home K h minting kind (Finish stamp c ds) low which k g = omega (arith, low, g.2.0)
 not_home K h minting kind (Forget stamp c) low which k g = omega (arith, low, g.2.0)
 not_home K h minting kind (Genesis header hs) low which k g = omega (arith, low, g.2.0)
+not_home K h minting kind (Carry stamp header source hs numbers) low which k g = omega (arith, low, g.2.0)
 not_home K h minting kind other low which k g = grind (arith, k, which)
 
 module _ (K : Shape) (minting : Minted) (P : Compact → Type 0) (shards : 0 < K.shards) (later : List Row) (kept : Steady K minting P later) where

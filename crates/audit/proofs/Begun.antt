@@ -4,7 +4,7 @@ use Rattle.std.proofs.Common.{◌∷◌, ◌++◌, refl, sym, ap, ◌∙◌, sub
 use Rattle.std.proofs.lemmas.List.Elements.{All-head, All-tail}
 use Rattle.std.proofs.lemmas.Bool.Decides.{eqb_tells}
 use Rattle.std.proofs.lemmas.Bool.{cases_lt}
-use Rattle.cbdc_model.specs.Records.{Digest, Shape, Header, Record, Row, journal, Genesis, Start}
+use Rattle.cbdc_model.specs.Records.{Digest, Shape, Header, Record, Row, journal, Genesis, Start, Carry, CarryStart}
 use Rattle.cbdc_model.specs.Ranges.{shard_of, shard_node, on_shard}
 use Rattle.cbdc_model.specs.Grammar.{IsShard, AreHere}
 use Rattle.cbdc_model.specs.After.{After, IsFirst, IsJournal}
@@ -24,6 +24,7 @@ use Rattle.audit.specs.AccountLaws.{AnyForm, BegunLaw, CausedListsLaw}
 -- of a journal's first record
 abbrev hashes_in : Record → List Digest
 hashes_in (Genesis header hs) = hs
+hashes_in (Carry stamp header source hs numbers) = hs
 hashes_in other = []
 
 abbrev first_hashes : List Record → List Digest
@@ -103,13 +104,19 @@ module _ (K : Shape) (X : ℕ → List Record) (here : (s : ℕ) → s < K.shard
 -- a coordinator's is its Start, a shard's its Genesis with hashes that lie there
 log_first : (h : Header) (r : Record) → h.node < h.shape.coordinators → IsFirst r → After h [] r → r ≡ Start h
 log_first h (Start header) low first after = ap Start after.0.0
+log_first h (CarryStart stamp header source numbers) low first after = ap Start after.0.0
 log_first h (Genesis header hs) low first after = absurd (let shard : IsShard h.shape h.node = after.0.2 in omega (arith, low, shard.0))
+log_first h (Carry stamp header source hs numbers) low first after =
+    absurd (let shard : IsShard h.shape h.node = after.0.2 in omega (arith, low, shard.0))
 log_first h other low first after = absurd first
 
 shard_first : (h : Header) (r : Record) → h.shape.coordinators ≤ h.node → IsFirst r → After h [] r
     → (r ≡ Genesis h (hashes_in r)) × AreHere h.shape h.node (hashes_in r)
 shard_first h (Genesis header hs) high first after = (ap (λ k. Genesis k hs) after.0.0, after.0.5)
+shard_first h (Carry stamp header source hs numbers) high first after = (ap (λ k. Genesis k hs) after.0.0, after.0.5)
 shard_first h (Start header) high first after = absurd (let low : h.node < h.shape.coordinators = after.0.2 in omega (arith, high, low))
+shard_first h (CarryStart stamp header source numbers) high first after =
+    absurd (let low : h.node < h.shape.coordinators = after.0.2 in omega (arith, high, low))
 shard_first h other high first after = absurd first
 
 -- the journal ends in it

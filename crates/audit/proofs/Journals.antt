@@ -3,14 +3,16 @@ use Rattle.std.proofs.Common.{◌≡◌, ◌<◌, ℕ, true, false, ◌==◌, if
 use mathlib.Core.List.{reverse_aux}
 use Rattle.std.proofs.lemmas.List.{reverse-reverse}
 use Rattle.std.proofs.lemmas.List.Elements.{All-nil, All-cons, All-weaker}
-use Rattle.cbdc_model.specs.Records.{Header, Record, Row, journal, stamp_of, Genesis, Start}
+use Rattle.cbdc_model.specs.Records.{Header, Record, Row, journal, stamp_of, Genesis, Start, Carry, CarryStart}
 use Rattle.cbdc_model.specs.After.{After, IsJournal}
 use Rattle.audit.specs.Rows.{Rises}
 
 -- each record behind the first has a greater stamp than the one before it
 after_rises : (h : Header) (q : Record) (past : List Record) (r : Record) → After h (q ∷ past) r → stamp_of q < stamp_of r
 after_rises h q past (Genesis header hs) a = absurd (let e : q ∷ past ≡ [] = a.1 in cc)
+after_rises h q past (Carry stamp header source hs numbers) a = absurd (let e : q ∷ past ≡ [] = a.1 in cc)
 after_rises h q past (Start header) a = absurd (let e : q ∷ past ≡ [] = a.1 in cc)
+after_rises h q past (CarryStart stamp header source numbers) a = absurd (let e : q ∷ past ≡ [] = a.1 in cc)
 after_rises h q past other a = a.1.0
 
 above_rest : (r q : Record) (later : List Record) → stamp_of r < stamp_of q → Rises (q ∷ later) → Rises (r ∷ (q ∷ later))

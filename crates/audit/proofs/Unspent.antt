@@ -3,7 +3,7 @@ use Rattle.std.proofs.Common.{◌≡◌, ◌⊎◌, inl, inr, ℕ, suc, ◌+◌,
 use Rattle.std.proofs.Common.{Some, None, refl, sym, ap, ◌∙◌, subst, arith}
 use Rattle.cbdc_model.specs.Causes.{IsCaused}
 use Rattle.cbdc_model.specs.Records.{Digest, Shape, Batch, Compact, Record, Row, journal, kind_of, is_of, Genesis, Lock, Finish, Start, Prepare}
-use Rattle.cbdc_model.specs.Records.{Commit, lock_of, txs_of, outcomes_of}
+use Rattle.cbdc_model.specs.Records.{Commit, lock_of, txs_of, outcomes_of, Carry, CarryStart}
 use Rattle.cbdc_model.specs.Ranges.{shard_of, shard_node, journal_at, lane_journal, home_of, Concerned}
 use Rattle.cbdc_model.specs.Status.{status, held_inputs, Unspent, Locked, Absent}
 use Rattle.cbdc_model.specs.Coins.{Output, Coin, FullTx, tx_coins, genesis_tx, genesis_hashes, compact}
@@ -186,7 +186,9 @@ module _ (K : Shape) (mint : List Output) (handed : List FullTx) (clean : Clean 
       ≤ genesis x + made (record { node = node; what = r } ∷ whole later) x)
       → Inv genesis Never (capped (view K (whole later))) → Inv genesis Never (capped (view K (record { node = node; what = r } ∷ whole later)))
   inv_next later kept node (Genesis header hs) next caused once covered inv = absurd next
+  inv_next later kept node (Carry stamp header source hs numbers) next caused once covered inv = absurd next
   inv_next later kept node (Start header) next caused once covered inv = absurd next
+  inv_next later kept node (CarryStart stamp header source numbers) next caused once covered inv = absurd next
   inv_next later kept node (Lock stamp b es) next caused once covered inv =
       let st = all_structure K (minted mint) Any shards later kept in
       let step = capped_lock K Any (whole later) st node stamp b es next in

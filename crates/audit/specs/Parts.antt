@@ -28,7 +28,8 @@ pub record HasSizes (K : Shape) (past : List Row) (unspent held owed : ℕ) : Ty
   pub held_are : IsCount (IsWaiting K past) held
   pub owed_are : IsCount (IsComing K past) owed
 
--- nothing is wrong with any row; the sizes are those of the three sets, the value is that of the last book, and what was minted is the sum of the mint
+-- nothing is wrong with any row; the sizes are those of the three sets, the value is that of the last book, and what was minted is the sum of the
+-- mint
 pub record IsSoundPart (K : Shape) (mint : List Output) (handed : List FullTx) (rows : List Row) (part : Part) : Type 0 where
   pub book : Book
   pub pass : Passes K mint handed (reverse rows) book

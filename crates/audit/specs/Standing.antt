@@ -1,6 +1,6 @@
 -- What is kept of the hashes along a walk over a history.
 use Rattle.std.specs.Prelude.{◌≡◌, ℕ, Bool, true, false, ◌==◌, List, Option, Some, None, if◌then◌else◌}
-use Rattle.cbdc_model.specs.Records.{Digest, Shape, Batch, Record, Row, same_batch, lock_of, Genesis, Lock, Finish}
+use Rattle.cbdc_model.specs.Records.{Digest, Shape, Batch, Record, Row, same_batch, lock_of, Genesis, Lock, Finish, Carry}
 use Rattle.cbdc_model.specs.Status.{Status, status, has, held_inputs, finished_status, Unspent, Locked, Absent}
 use Rattle.cbdc_model.specs.Ranges.{shard_of, shard_node, journal_at}
 use Rattle.shard_table.specs.Entries.{lookup}
@@ -29,6 +29,7 @@ is_locked_by b Absent = false
 -- what a record behind a journal makes of the status of a hash
 abbrev pub next_status : Record → List Record → Digest → Status → Status
 next_status (Genesis header hs) J x before = if has hs x then Unspent else before
+next_status (Carry stamp header source hs numbers) J x before = if has hs x then Unspent else before
 next_status (Lock stamp b es) J x before = if has (held_inputs es) x then Locked b else before
 next_status (Finish stamp b ds) J x before = finished_status (lock_of J b) ds x before
 next_status other J x before = before

@@ -59,8 +59,8 @@ abbrev pub WhyUnopened : {D : Type 0} → Ghosts D → Disks D → Disks D → L
 WhyUnopened device before after mint answer =
     IsUnopenedBy device before.held before.faults after.faults (Some (genesis_id mint)) answer ⊎ (answer ≡ answers.Memory)
 
--- there is no verdict: the mint is not read; or it is, and a client file is the first that is not; or all files were read, and the ledger could not be
--- opened
+-- there is no verdict: the mint is not read; or it is, and a client file is the first that is not; or all files were read, and the ledger could not
+-- be opened
 abbrev pub WhyUnaudited : {D : Type 0} → Ghosts D → Scene D → Scene D → FileWord → List FileWord → Answer → Type 0
 WhyUnaudited device before after file clients answer =
     IsNotRead file.place (before.file file.name.now) mint_of_file (before.file_faults file.name.now) (after.file_faults file.name.now) answer

@@ -2,7 +2,7 @@
 use Rattle.std.specs.Prelude.{◌≡◌, ℕ, zero, suc, max, true, List, Option, is_some}
 use Rattle.cbdc_model.specs.Records.{Shape, Batch, Compact, Record, record_of, entries_in, txs_in, outcomes_in, stamp_in, txs_of, lock_of, Genesis}
 use Rattle.cbdc_model.specs.Records.{Lock, Finish, Forget, Start, Prepare, Commit, Discard, Done, lock_kind, finish_kind, forget_kind, prepare_kind}
-use Rattle.cbdc_model.specs.Records.{commit_kind, discard_kind}
+use Rattle.cbdc_model.specs.Records.{commit_kind, discard_kind, Upgrade, Carry, CarryStart, Seal}
 use Rattle.cbdc_model.specs.Replies.{entries}
 use Rattle.cbdc_model.specs.Ranges.{shard_node, home_of, part, Concerned}
 use Rattle.cbdc_model.specs.Outcomes.{outcomes, decisions}
@@ -33,11 +33,11 @@ IsStamped stamp own cause = stamp ≡ next_stamp own cause
 abbrev pub last_of : Shape → (ℕ → List Record) → ℕ → Batch → ℕ
 last_of K journals kind b = greatest (λ s. stamp_in (at_shards K journals kind b s)) K.shards
 
--- the record's causes stand in these journals, it agrees with them, and its stamp is one more than the greatest of its node's last one and theirs
--- (a Prepare has none, and of a first record nothing is asked). The cause of a Lock is its Prepare, of which it has the part for its shard; of a
--- Commit all Locks, whose replies make its outcomes; of a Finish its Commit, whose decisions it has for the entries of the shard's own Lock. The
--- cause of a Discard is all Finishes, of a Forget its Discard, of a Done all Forgets. Each concerned shard has its Lock, Finish or Forget; replies
--- and stamps are looked for at all shards, of which the others have no record of the batch in kept journals
+-- the record's causes stand in these journals, it agrees with them, and its stamp is one more than the greatest of its node's last one and theirs (a
+-- Prepare, an Upgrade and a Seal have none; of a first record nothing is asked). The cause of a Lock is its Prepare, of which it has the part for its
+-- shard; of a Commit all Locks, whose replies make its outcomes; of a Finish its Commit, whose decisions it has for the entries of the shard's own
+-- Lock. The cause of a Discard is all Finishes, of a Forget its Discard, of a Done all Forgets. Each concerned shard has its Lock, Finish or Forget;
+-- replies and stamps are looked for at all shards, of which the others have no record of the batch in kept journals
 abbrev pub IsCaused : Shape → (ℕ → List Record) → ℕ → Record → Type 0
 IsCaused K journals node (Genesis header hs) = Unit {0}
 IsCaused K journals node (Start header) = Unit {0}
@@ -63,3 +63,7 @@ IsCaused K journals node (Forget stamp b) =
     (is_some cause ≡ true) × IsStamped stamp (journals node) (stamp_in cause)
 IsCaused K journals node (Done stamp b) =
     AllHave K journals forget_kind b × IsStamped stamp (journals node) (last_of K journals forget_kind b)
+IsCaused K journals node (Upgrade stamp batch) = IsStamped stamp (journals node) 0
+IsCaused K journals node (Carry stamp header source hs numbers) = Unit {0}
+IsCaused K journals node (CarryStart stamp header source numbers) = Unit {0}
+IsCaused K journals node (Seal stamp to shards) = IsStamped stamp (journals node) 0

@@ -1,7 +1,7 @@
 -- Which records may stand in a journal with a header, whatever stands before them.
 use Rattle.std.specs.Prelude.{◌≡◌, ℕ, ◌+◌, ◌*◌, ◌^◌, ◌<◌, ◌≤◌, List, [], ◌∷◌, length, All}
 use Rattle.cbdc_model.specs.Records.{Digest, Shape, Header, Batch, Compact, Reply, Outcome, Answered, Record, Held, Missing, Taken, Won, Lacks}
-use Rattle.cbdc_model.specs.Records.{Blocked, Genesis, Lock, Finish, Forget, Start, Prepare, Commit, Discard, Done}
+use Rattle.cbdc_model.specs.Records.{Blocked, Genesis, Lock, Finish, Forget, Start, Prepare, Commit, Discard, Done, Upgrade, Carry, CarryStart, Seal}
 use Rattle.cbdc_model.specs.Ranges.{shard_of, shard_node}
 
 -- a stamp from 1 to 2^62, as a Lock or a Prepare has
@@ -69,7 +69,8 @@ pub record IsCompact (t : Compact) : Type 0 where
   pub inputs : IsHashList t.inputs
   pub outputs : IsHashList t.outputs
 
--- a record of the grammar, at the node and under the shape of this header; that the shape is within its limits is the type's
+-- a record of the grammar, at the node and under the shape of this header; that the shape is within its limits is the type's. No bytes have an
+-- Upgrade, a Carry, a CarryStart or a Seal yet
 abbrev pub IsInGrammar : Header → Record → Type 0
 IsInGrammar h (Genesis header hs) =
     (header ≡ h) × IsHash h.genesis × IsShard h.shape h.node × (length hs ≤ 1000000) × All IsHash hs × AreHere h.shape h.node hs
@@ -85,3 +86,7 @@ IsInGrammar h (Commit stamp b os) =
     IsLater stamp × IsBatchOf h.shape b × (h.node < h.shape.coordinators) × HasSize h.shape os × All (IsOutcome h.shape) os
 IsInGrammar h (Discard stamp b) = IsLater stamp × IsBatchOf h.shape b × (h.node < h.shape.coordinators)
 IsInGrammar h (Done stamp b) = IsLater stamp × IsBatchOf h.shape b × (h.node < h.shape.coordinators)
+IsInGrammar h (Upgrade stamp batch) = ⊥
+IsInGrammar h (Carry stamp header source hs numbers) = ⊥
+IsInGrammar h (CarryStart stamp header source numbers) = ⊥
+IsInGrammar h (Seal stamp to shards) = ⊥

@@ -1,6 +1,6 @@
 -- What lanes add to the journals that they see, and kept journals as one fact for each record.
 use Rattle.std.specs.Prelude.{◌≡◌, ◌⊎◌, ℕ, Bool, true, false, ◌&&◌, not, List, ◌∷◌, ◌++◌, All, Contains}
-use Rattle.cbdc_model.specs.Records.{Shape, Compact, Record, journal, is_in_lane, Prepare}
+use Rattle.cbdc_model.specs.Records.{Shape, Compact, Record, journal, is_in_lane, Genesis, Start, Prepare, Carry, CarryStart}
 use Rattle.cbdc_model.specs.After.{After}
 use Rattle.cbdc_model.specs.Causes.{IsCaused}
 use Rattle.cbdc_model.specs.History.{Minted, header_of, first_rows, TxsPass}
@@ -16,8 +16,12 @@ pub record Seen (K : Shape) (J : ℕ → List Record) (n : ℕ) (rest : List Rec
   pub ends : (k : ℕ) → IsEnd (lists k) (J k)
   pub caused : IsCaused K (replaced lists n rest) n r
 
--- a Prepare has one of these lists of transactions
+-- what a lane with these lists of transactions may write: no first record, and a Prepare of one of them
 abbrev pub Holds : List (List Compact) → Record → Type 0
+Holds pieces (Genesis header hs) = ⊥
+Holds pieces (Start header) = ⊥
+Holds pieces (Carry stamp header source hs numbers) = ⊥
+Holds pieces (CarryStart stamp header source numbers) = ⊥
 Holds pieces (Prepare stamp b txs) = Contains pieces txs
 Holds pieces other = Unit {0}
 
@@ -50,6 +54,11 @@ AllPass P pieces = (txs : List Compact) → Contains pieces txs → All P txs
 abbrev pub NextFrom : Shape → Minted → (ℕ → List Record) → (ℕ → List Record) → Type 0
 NextFrom K m E X = (n : ℕ) (newer rest : List Record) (r : Record) → X n ≡ newer ++ r ∷ rest → IsEnd (E n) rest → After (header_of K m.id n) rest r
 
+-- each new record is a lane's
+abbrev pub AllInLanes : (ℕ → List Record) → (ℕ → List Record) → Type 0
+AllInLanes E X = (n : ℕ) (newer rest : List Record) (r : Record) → X n ≡ newer ++ r ∷ rest → IsEnd (E n) rest
+    → (lane : ℕ) × (is_in_lane lane r ≡ true)
+
 -- what a lane had seen at its end are beginnings of the final journals, behind which nothing of the lane came
 pub record Left (lane : ℕ) (J X : ℕ → List Record) : Type 0 where
   pub more : ℕ → List Record
@@ -61,6 +70,7 @@ pub record Left (lane : ℕ) (J X : ℕ → List Record) : Type 0 where
 pub record Wave (K : Shape) (m : Minted) (pieces : ℕ → List (List Compact)) (E X : ℕ → List Record) : Type 0 where
   pub grows : (n : ℕ) → IsEnd (E n) (X n)
   pub next : NextFrom K m E X
+  pub in_lanes : AllInLanes E X
   pub exits : ℕ → ℕ → List Record
   pub made : (lane : ℕ) → Made K (pieces lane) false lane E (exits lane)
   pub left : (lane : ℕ) → Left lane (exits lane) X

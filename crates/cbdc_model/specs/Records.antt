@@ -1,6 +1,6 @@
 -- The records of the journals, and how one is found. A journal is a list of records, the newest first. The reply Locked is named Taken here,
 -- and the outcomes Held, Missing and Locked are Won, Lacks and Blocked.
-use Rattle.std.specs.Prelude.{ℕ, Bool, true, false, ◌&&◌, ◌==◌, List, [], ◌∷◌, if◌then◌else◌, Option, Some, None, find, bytes_eq}
+use Rattle.std.specs.Prelude.{ℕ, ◌/◌, nat_lt, length, Bool, true, false, ◌&&◌, ◌==◌, List, [], ◌∷◌, if◌then◌else◌, Option, Some, None, find, bytes_eq}
 use Rattle.base_types.specs.declared.ids.BatchId.{BatchId}
 use Rattle.cbdc_types.specs.declared.tx.CompactTx.{CompactTx}
 pub use Rattle.cbdc_types.specs.Limits.{ShapeOf as Shape}
@@ -12,7 +12,8 @@ pub use Rattle.cbdc_types.specs.declared.batch.Outcome.{Outcome}
 pub use Rattle.cbdc_types.specs.declared.batch.Outcome.TheVariants.{Held as Won, Missing as Lacks, Locked as Blocked}
 pub use Rattle.cbdc_types.specs.declared.batch.Answered.{Answered}
 pub use Rattle.cbdc_types.specs.declared.record.Record.{Record}
-pub use Rattle.cbdc_types.specs.declared.record.Record.TheVariants.{Genesis, Lock, Finish, Forget, Start, Prepare, Commit, Discard, Done}
+pub use Rattle.cbdc_types.specs.declared.record.Record.TheVariants.{Genesis, Lock, Finish, Forget, Start, Prepare, Commit, Discard, Done, Upgrade}
+pub use Rattle.cbdc_types.specs.declared.record.Record.TheVariants.{Carry, CarryStart, Seal}
 
 -- a hash: its 32 bytes, as a list of numbers (that each is below 256 is the type's)
 abbrev pub Digest : Type 0
@@ -46,7 +47,7 @@ is_won Won = true
 is_won (Lacks shard x) = false
 is_won (Blocked shard x by) = false
 
--- a record's stamp: 0 for a first record
+-- a record's stamp: 0 for a first record of a mint
 abbrev pub stamp_of : Record → ℕ
 stamp_of (Genesis header hashes) = 0
 stamp_of (Lock stamp b es) = stamp
@@ -57,6 +58,10 @@ stamp_of (Prepare stamp b txs) = stamp
 stamp_of (Commit stamp b os) = stamp
 stamp_of (Discard stamp b) = stamp
 stamp_of (Done stamp b) = stamp
+stamp_of (Upgrade stamp batch) = stamp
+stamp_of (Carry stamp header source hs numbers) = stamp
+stamp_of (CarryStart stamp header source numbers) = stamp
+stamp_of (Seal stamp to shards) = stamp
 
 -- the kind of a Genesis, a shard's first record: the first byte of its body
 abbrev pub genesis_kind : ℕ
@@ -94,6 +99,22 @@ discard_kind = 8
 abbrev pub done_kind : ℕ
 done_kind = 9
 
+-- the kind of an Upgrade: the first byte of its body
+abbrev pub upgrade_kind : ℕ
+upgrade_kind = 10
+
+-- the kind of a Carry, a shard's first record in a later generation: the first byte of its body
+abbrev pub carry_kind : ℕ
+carry_kind = 12
+
+-- the kind of a CarryStart, a coordinator's first record in a later generation: the first byte of its body
+abbrev pub carry_start_kind : ℕ
+carry_start_kind = 13
+
+-- the kind of a Seal: the first byte of its body
+abbrev pub seal_kind : ℕ
+seal_kind = 14
+
 -- a record's kind
 abbrev pub kind_of : Record → ℕ
 kind_of (Genesis header hashes) = genesis_kind
@@ -105,6 +126,10 @@ kind_of (Prepare stamp b txs) = prepare_kind
 kind_of (Commit stamp b os) = commit_kind
 kind_of (Discard stamp b) = discard_kind
 kind_of (Done stamp b) = done_kind
+kind_of (Upgrade stamp batch) = upgrade_kind
+kind_of (Carry stamp header source hs numbers) = carry_kind
+kind_of (CarryStart stamp header source numbers) = carry_start_kind
+kind_of (Seal stamp to shards) = seal_kind
 
 -- whether a record is of this batch
 abbrev pub is_of : Batch → Record → Bool
@@ -117,8 +142,12 @@ is_of b (Prepare stamp c txs) = same_batch c b
 is_of b (Commit stamp c os) = same_batch c b
 is_of b (Discard stamp c) = same_batch c b
 is_of b (Done stamp c) = same_batch c b
+is_of b (Upgrade stamp batch) = false
+is_of b (Carry stamp header source hs numbers) = false
+is_of b (CarryStart stamp header source numbers) = false
+is_of b (Seal stamp to shards) = false
 
--- whether a record is of this lane
+-- whether a record says what the lane's last batch is: a record of a batch of the lane, and a first record that has the lane's number
 abbrev pub is_in_lane : ℕ → Record → Bool
 is_in_lane lane (Genesis header hashes) = false
 is_in_lane lane (Lock stamp c es) = c.lane == lane
@@ -129,6 +158,10 @@ is_in_lane lane (Prepare stamp c txs) = c.lane == lane
 is_in_lane lane (Commit stamp c os) = c.lane == lane
 is_in_lane lane (Discard stamp c) = c.lane == lane
 is_in_lane lane (Done stamp c) = c.lane == lane
+is_in_lane lane (Upgrade stamp batch) = false
+is_in_lane lane (Carry stamp header source hs numbers) = nat_lt lane (length numbers)
+is_in_lane lane (CarryStart stamp header source numbers) = lane / header.shape.lanes == header.node
+is_in_lane lane (Seal stamp to shards) = false
 
 -- the newest record of a kind of a batch
 abbrev pub record_of : ℕ → List Record → Batch → Option Record

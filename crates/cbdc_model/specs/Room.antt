@@ -1,7 +1,7 @@
 -- How many bytes a record takes in its journal, and how many are kept free for records still to come.
 use Rattle.std.specs.Prelude.{ℕ, zero, suc, ◌+◌, ◌*◌, List, length, sum_by}
 use Rattle.cbdc_model.specs.Records.{Shape, Batch, Compact, Reply, Outcome, Answered, Record, txs_of, lock_of, Held, Missing, Taken, Won, Lacks}
-use Rattle.cbdc_model.specs.Records.{Blocked, Genesis, Lock, Finish, Forget, Start, Prepare, Commit, Discard, Done}
+use Rattle.cbdc_model.specs.Records.{Blocked, Genesis, Lock, Finish, Forget, Start, Prepare, Commit, Discard, Done, Upgrade, Carry, CarryStart, Seal}
 use Rattle.cbdc_model.specs.Slots.{Phase, slot, Idle, InLock, InFinish, InPrepare, InCommit, InDiscard}
 
 -- the bytes of a reply
@@ -35,6 +35,10 @@ size_of (Prepare stamp b txs) = 42 + sum_by compact_size txs
 size_of (Commit stamp b os) = 42 + sum_by outcome_size os
 size_of (Discard stamp b) = 34
 size_of (Done stamp b) = 34
+size_of (Upgrade stamp batch) = 26
+size_of (Carry stamp header source hs numbers) = 122 + 32 * length hs + 8 * length numbers
+size_of (CarryStart stamp header source numbers) = 114 + 8 * length numbers
+size_of (Seal stamp to shards) = 34
 
 -- the bytes kept for the later records of a batch of so many entries at a shard: its Finish and its Forget
 abbrev pub room_behind_lock : ℕ → ℕ

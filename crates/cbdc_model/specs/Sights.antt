@@ -79,8 +79,8 @@ abbrev pub IsBrokenSince : ℕ → ℕ → Option ℕ → Type 0
 IsBrokenSince opened faults None = Unit {0}
 IsBrokenSince opened faults (Some since) = HasRisen opened since × (since ≤ faults)
 
--- what a lane is told of its call: it did what it owed (a node with a record in flight owes that it is broken, and where the lane is alone no other does) on
--- the journal that it found, whose last stamp is not below the lane's last one nor the last one seen before
+-- what a lane is told of its call: it did what it owed (a node with a record in flight owes that it is broken, and where the lane is alone no other
+-- does) on the journal that it found, whose last stamp is not below the lane's last one nor the last one seen before
 pub record Told {A : Type 0} (alone : Bool) (lane : ℕ) (memory : Bool) (due : Option ℕ → List Record → Due A) (old new : Sight)
     (result : Result A NodeFault) : Type 0 where
   pub found : List Record

@@ -1,7 +1,7 @@
 -- What a shard's journal says of a hash, looking back over its records.
 use Rattle.std.specs.Prelude.{Bool, false, ◌||◌, List, [], ◌∷◌, ◌++◌, if◌then◌else◌}
 use Rattle.cbdc_model.specs.Records.{Digest, same_digest, lock_of, Answered, Record, is_held, Genesis, Lock, Finish, Forget, Start, Prepare, Commit}
-use Rattle.cbdc_model.specs.Records.{Discard, Done}
+use Rattle.cbdc_model.specs.Records.{Discard, Done, Upgrade, Carry, CarryStart, Seal}
 pub use Rattle.cbdc_types.specs.declared.batch.Status.{Status}
 pub use Rattle.cbdc_types.specs.declared.batch.Status.TheVariants.{Unspent, Locked, Absent}
 
@@ -42,8 +42,8 @@ finished_status es ds x before =
     if has (returned_inputs es ds) x then Unspent else
     if has (taken_inputs es ds) x then Absent else before
 
--- by the newest record that names the hash: a Genesis its hashes, Unspent; a Lock the inputs of its Held entries, Locked by its batch; a Finish,
--- read with its batch's Lock, as above; Absent where none does
+-- by the newest record that names the hash: a Genesis and a Carry their hashes, Unspent; a Lock the inputs of its Held entries, Locked by its batch;
+-- a Finish, read with its batch's Lock, as above; Absent where none does
 abbrev pub status : List Record → Digest → Status
 status [] x = Absent
 status (Genesis header hs ∷ past) x = if has hs x then Unspent else status past x
@@ -55,3 +55,7 @@ status (Prepare stamp b txs ∷ past) x = status past x
 status (Commit stamp b os ∷ past) x = status past x
 status (Discard stamp b ∷ past) x = status past x
 status (Done stamp b ∷ past) x = status past x
+status (Upgrade stamp batch ∷ past) x = status past x
+status (Carry stamp header source hs numbers ∷ past) x = if has hs x then Unspent else status past x
+status (CarryStart stamp header source numbers ∷ past) x = status past x
+status (Seal stamp to shards ∷ past) x = status past x

@@ -10,7 +10,7 @@ pub struct Header {
     pub genesis: Hash,
 }
 
-/// A record of a journal. Genesis to Forget stand at shards, Start to Done at coordinators.
+/// A record of a journal. Genesis to Forget and Carry stand at shards, Start to Done, CarryStart and Seal at coordinators, an Upgrade at either.
 #[derive(Clone, Debug, PartialEq, Eq, Drop)]
 pub enum Record {
     /// The minted hashes that lie on this shard, in the order of the mint.
@@ -61,6 +61,33 @@ pub enum Record {
         stamp: Stamp,
         batch: BatchId,
     },
+    /// Version 2 is in force on this node from here on, with batches of so many transactions at most.
+    Upgrade {
+        stamp: Stamp,
+        batch: u32,
+    },
+    /// A shard's first record where the ledger goes on from that of another generation: those of its unspent hashes that lie on this shard, in
+    /// rising order, and the last batch number of every lane.
+    Carry {
+        stamp: Stamp,
+        header: Header,
+        source: u32,
+        hashes: List<Hash>,
+        numbers: List<u64>,
+    },
+    /// A coordinator's first record there: the last batch numbers of its own lanes.
+    CarryStart {
+        stamp: Stamp,
+        header: Header,
+        source: u32,
+        numbers: List<u64>,
+    },
+    /// The ledger goes on as that generation, over so many shards. Node 0 alone has it, as its last record.
+    Seal {
+        stamp: Stamp,
+        to: u32,
+        shards: u32,
+    },
 }
 
 /// The kinds of record. As a number, a kind is the first byte of a record's body (docs/FORMATS.md).
@@ -75,4 +102,8 @@ pub enum RecordKind {
     Commit = 7,
     Discard = 8,
     Done = 9,
+    Upgrade = 10,
+    Carry = 12,
+    CarryStart = 13,
+    Seal = 14,
 }

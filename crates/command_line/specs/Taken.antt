@@ -21,7 +21,8 @@ value_at words place = option_and_then (value_behind words place) (option_at wor
 abbrev pub option_word : Text → List Text → Option Text
 option_word name words = option_and_then (value_at words) (option_place name words)
 
--- the mint is the first word that is a value of its own, the clients are all of them, or all but the mint, and the verdicts are the value of their option
+-- the mint is the first word that is a value of its own, the clients are all of them, or all but the mint, and the verdicts are the value of their
+-- option
 abbrev pub WordsTakenLaw : Type 0
 WordsTakenLaw =
     (words : List Text) (rows : List Row)

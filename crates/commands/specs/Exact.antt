@@ -7,8 +7,8 @@ pub use Rattle.audit_command.specs.Promises.{IsUnopenedOf}
 use Rattle.command_answers.specs.Scene.{Scene}
 use Rattle.commands.specs.Promises.{promise_of}
 
--- no refusal of what is asked has its cause in the disks: of the ledger that `run` and `recover` resume, that `status` opens, and that `audit` opens by
--- its mint; of other requests nothing is said
+-- no refusal of what is asked has its cause in the disks: of the ledger that `run` and `recover` resume, that `status` opens, and that `audit` opens
+-- by its mint; of other requests nothing is said
 abbrev pub IsExact : {D : Type 0} → Ghosts D → Scene D → Request → Type 0
 IsExact device before r = (promise_of device r).exact before
 

@@ -18,8 +18,8 @@ use Rattle.commands.specs.Complete.{IsUnhindered}
 abbrev pub memory_disks : PlainRack → Disks PlainDisk
 memory_disks rack = record { held = disk_at rack; faults = faults_at rack.misses }
 
--- the scene of these files, these disks and these bytes that an output took, all in memory: a file that is there is read, and no count of the output is
--- told
+-- the scene of these files, these disks and these bytes that an output took, all in memory: a file that is there is read, and no count of the output
+-- is told
 abbrev pub memory_scene : List (String Global × Vec ℕ) → PlainRack → List ℕ → Scene PlainDisk
 memory_scene files rack printed = record {
   file = λ name. file_of files name;

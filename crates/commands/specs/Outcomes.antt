@@ -19,8 +19,8 @@ OutputTook before after answer = IsPrinted before.printed after.printed answer
 abbrev pub Did : {D : Type 0} → Ghosts D → Scene D → Scene D → Request → Answer → Type 0
 Did device before after r answer = (promise_of device r).did before.file before.disks after.disks (OutputTook before after answer)
 
--- why what was asked for was not done: of `init`, `run`, `recover`, `status` and `audit` a file that is the first not read, what the disks told of the
--- ledger, a lane's fault, or what an audit found; of a workload that hashes of it clash; a text that is shown has no other cause
+-- why what was asked for was not done: of `init`, `run`, `recover`, `status` and `audit` a file that is the first not read, what the disks told of
+-- the ledger, a lane's fault, or what an audit found; of a workload that hashes of it clash; a text that is shown has no other cause
 abbrev pub Why : {D : Type 0} → Ghosts D → Scene D → Scene D → Request → Answer → Type 0
 Why device before after r answer = (promise_of device r).why before after answer
 

@@ -2,7 +2,7 @@
 use Rattle.std.proofs.Common.{◌≡◌, ◌≢◌, ◌+◌, List, [], length, ap, sym, ◌∙◌, arith}
 use Rattle.std.specs.Prelude.{◌↔◌, IsTrue, Bool, Result, Ok, Err, IfOk}
 use Rattle.std.proofs.lemmas.List.{length-map}
-use Rattle.cbdc_model.specs.Records.{Record, txs_of, Genesis, Start, Prepare, Commit, Discard, Done}
+use Rattle.cbdc_model.specs.Records.{Record, txs_of, Genesis, Start, Prepare, Commit, Discard, Done, Carry, CarryStart}
 use Rattle.cbdc_model.specs.Slots.{slot, InPrepare, InCommit, InDiscard}
 use Rattle.cbdc_model.specs.Grammar.{IsInGrammar}
 use Rattle.cbdc_model.specs.After.{After, Follows}
@@ -45,7 +45,9 @@ follows_admitted c J other stands next = absurd next
 admitted_follows : (c : CoordOf) (J : List Record) (r : Record) → IsCoordWhole c → CoordStands c J → J ≢ [] → IsInGrammar c.header r
     → Follows c.header J r → IsCoordNext c r
 admitted_follows c J (Genesis header hs) whole stands begun grammar follows = absurd (begun follows)
+admitted_follows c J (Carry stamp header source hs numbers) whole stands begun grammar follows = absurd (begun follows)
 admitted_follows c J (Start header) whole stands begun grammar follows = absurd (begun follows)
+admitted_follows c J (CarryStart stamp header source numbers) whole stands begun grammar follows = absurd (begun follows)
 admitted_follows c J (Prepare stamp b txs) whole stands begun grammar follows =
     let own = sym follows.1 in
     let s : (coord_lane c b.lane).slot ≡ slot J b.lane = stands.slots b.lane own in (

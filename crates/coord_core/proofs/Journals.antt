@@ -5,6 +5,7 @@ use Rattle.std.specs.Prelude.{if◌then◌else◌, ◌==◌}
 use Rattle.std.proofs.lemmas.Bool.Decides.{eqb_tells}
 use Rattle.std.proofs.lemmas.List.{length-map}
 use Rattle.cbdc_model.specs.Records.{Header, Record, Batch, Compact, txs_of, Genesis, Lock, Finish, Forget, Start, Prepare, Commit, Discard, Done}
+use Rattle.cbdc_model.specs.Records.{Carry, CarryStart}
 use Rattle.cbdc_model.specs.Slots.{Slot, Phase, slot, Idle, InLock, InFinish, InPrepare, InCommit, InDiscard}
 use Rattle.cbdc_model.specs.Ranges.{home_of}
 use Rattle.cbdc_model.specs.Grammar.{IsBatchOf, HasSize}
@@ -61,6 +62,7 @@ slot_by (Some (b, p)) s lane = if b.lane == lane then record { number = b.number
 slot_is_by : (r : Record) (past : List Record) (lane : ℕ) → slot (r ∷ past) lane ≡ slot_by (sets_of r) (slot past lane) lane
 unfolding sets_of
 slot_is_by (Genesis header hs) past lane = refl
+slot_is_by (Carry stamp header source hs numbers) past lane = refl
 slot_is_by other past lane = refl
 
 -- a phase of a coordinator's lane
@@ -79,10 +81,12 @@ SetFacts h (Some (b, p)) = IsBatchOf h.shape b × (h.node ≡ home_of h.shape b.
 set_facts : (h : Header) (past : List Record) (r : Record) → h.node < h.shape.coordinators → After h past r → SetFacts h (sets_of r)
 unfolding sets_of
 set_facts h past (Genesis header hs) node after = tt
+set_facts h past (Carry stamp header source hs numbers) node after = tt
 set_facts h past (Lock stamp b es) node after = absurd (omega (arith, after.0.2.0))
 set_facts h past (Finish stamp b ds) node after = absurd (omega (arith, after.0.2.0))
 set_facts h past (Forget stamp b) node after = absurd (omega (arith, after.0.2.0))
 set_facts h past (Start header) node after = tt
+set_facts h past (CarryStart stamp header source numbers) node after = tt
 set_facts h past other node after = (after.0.1, after.1.1, tt)
 
 abbrev pub no_slot : Slot

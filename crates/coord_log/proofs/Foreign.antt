@@ -1,7 +1,7 @@
 -- A coordinator's journal has no record of another coordinator's lane.
 use Rattle.std.proofs.Common.{◌≡◌, ◌≢◌, ◌⊎◌, inl, inr, ◌<◌, ◌==◌, true, false, ℕ, List, [], ◌∷◌, refl, sym, ap, ◌∙◌, subst, arith}
 use Rattle.std.proofs.lemmas.Bool.Decides.{eqb_tells}
-use Rattle.cbdc_model.specs.Records.{Header, Record, Genesis, Start, Prepare, Commit, Discard, Done}
+use Rattle.cbdc_model.specs.Records.{Header, Record, Genesis, Start, Prepare, Commit, Discard, Done, Carry, CarryStart}
 use Rattle.cbdc_model.specs.Ranges.{home_of}
 use Rattle.cbdc_model.specs.Slots.{Slot, slot}
 use Rattle.cbdc_model.specs.After.{IsFirst, IsJournal}
@@ -19,7 +19,9 @@ module _ (h : Header) (lane : ℕ) (inside : h.node < h.shape.coordinators) (oth
 
   first_slot : (r : Record) → IsFirst r → slot (r ∷ []) lane ≡ no_lane.slot
   first_slot (Genesis header hs) first = refl
+  first_slot (Carry stamp header source hs numbers) first = refl
   first_slot (Start header) first = refl
+  first_slot (CarryStart stamp header source numbers) first = refl
   first_slot other first = absurd first
 
   -- so the lane has no batch
@@ -27,7 +29,9 @@ module _ (h : Header) (lane : ℕ) (inside : h.node < h.shape.coordinators) (oth
   no_batch [] j = absurd j
   no_batch (r ∷ []) j = first_slot r j.0
   no_batch (Genesis header hs ∷ (q ∷ past)) j = absurd (let none : q ∷ past ≡ [] = j.0.1 in cc)
+  no_batch (Carry stamp header source hs numbers ∷ (q ∷ past)) j = absurd (let none : q ∷ past ≡ [] = j.0.1 in cc)
   no_batch (Start header ∷ (q ∷ past)) j = absurd (let none : q ∷ past ≡ [] = j.0.1 in cc)
+  no_batch (CarryStart stamp header source numbers ∷ (q ∷ past)) j = absurd (let none : q ∷ past ≡ [] = j.0.1 in cc)
   no_batch (Prepare stamp b txs ∷ (q ∷ past)) j = rw (not_it b.lane j.0.1.1) (no_batch (q ∷ past) j.1)
   no_batch (Commit stamp b os ∷ (q ∷ past)) j = rw (not_it b.lane j.0.1.1) (no_batch (q ∷ past) j.1)
   no_batch (Discard stamp b ∷ (q ∷ past)) j = rw (not_it b.lane j.0.1.1) (no_batch (q ∷ past) j.1)

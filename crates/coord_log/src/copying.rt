@@ -22,6 +22,10 @@ fn is_of_lane(written: &Record, lane: LaneId) -> bool
         Record::Commit { batch, .. } => batch.lane == lane,
         Record::Discard { batch, .. } => batch.lane == lane,
         Record::Done { batch, .. } => batch.lane == lane,
+        Record::Upgrade { .. } => false,
+        Record::Carry { numbers, .. } => (lane.0 as usize) < numbers.len(),
+        Record::CarryStart { header, .. } => lane.0 / header.shape.lanes() == header.node.0,
+        Record::Seal { .. } => false,
     }
 }
 
@@ -39,6 +43,10 @@ fn stamp_at(written: &Record) -> Stamp
         Record::Commit { stamp, .. } => *stamp,
         Record::Discard { stamp, .. } => *stamp,
         Record::Done { stamp, .. } => *stamp,
+        Record::Upgrade { stamp, .. } => *stamp,
+        Record::Carry { stamp, .. } => *stamp,
+        Record::CarryStart { stamp, .. } => *stamp,
+        Record::Seal { stamp, .. } => *stamp,
     }
 }
 

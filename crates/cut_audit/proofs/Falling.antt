@@ -6,7 +6,7 @@ use Rattle.std.proofs.lemmas.Bool.{cases_lt}
 use Rattle.std.proofs.lemmas.List.Elements.{All-nil, All-cons, All-weaker}
 use Rattle.std.proofs.Common.{inl, inr}
 use Rattle.cbdc_model.specs.Records.{Shape, Digest, Header, Compact, Record, Row, journal, stamp_of, last_stamp, Genesis, Lock, Finish, Forget, Start}
-use Rattle.cbdc_model.specs.Records.{Prepare, Commit, Discard, Done}
+use Rattle.cbdc_model.specs.Records.{Prepare, Commit, Discard, Done, Carry, CarryStart}
 use Rattle.cbdc_model.specs.After.{After}
 use Rattle.cbdc_model.specs.History.{Minted, header_of, first_rows, IsSteady}
 use Rattle.ledger_laws.proofs.FirstJournals.{first_is, first_beyond}
@@ -47,7 +47,9 @@ falls_rise (r ∷ past) f = onto r past [] f (All-nil (λ p. stamp_of r < stamp_
 
 after_falls : (h : Header) (q : Record) (past : List Record) (r : Record) → After h (q ∷ past) r → stamp_of q < stamp_of r
 after_falls h q past (Genesis header hs) a = absurd (let e : q ∷ past ≡ [] = a.1 in cc)
+after_falls h q past (Carry stamp header source hs numbers) a = absurd (let e : q ∷ past ≡ [] = a.1 in cc)
 after_falls h q past (Start header) a = absurd (let e : q ∷ past ≡ [] = a.1 in cc)
+after_falls h q past (CarryStart stamp header source numbers) a = absurd (let e : q ∷ past ≡ [] = a.1 in cc)
 after_falls h q past other a = a.1.0
 
 on_top : (h : Header) (past : List Record) (r : Record) → After h past r → Falls past → Falls (r ∷ past)

@@ -57,8 +57,8 @@ abbrev pub HasBegunFirst : Shape → (FullTx → Bool) → List (List FullTx) �
 HasBegunFirst K sound [] M X = (n : ℕ) → X n ≡ M n
 HasBegunFirst K sound (file ∷ more) M X = 0 < K.batch → (lane : ℕ) → IsLaneOf K lane → HasBegun K lane (sent_to K sound file lane) M X
 
--- files that were run or cut short, from journals E, in which batches were open, to X: the open batches and the waves of the files before are at their
--- end, those journals are kept with all lanes idle, and from there on they have grown by the first of the other files alone
+-- files that were run or cut short, from journals E, in which batches were open, to X: the open batches and the waves of the files before are at
+-- their end, those journals are kept with all lanes idle, and from there on they have grown by the first of the other files alone
 pub record AreRunOrCut (K : Shape) (sound : FullTx → Bool) (files : List (List FullTx)) (mint : List Output) (E X : ℕ → List Record) : Type 0 where
   pub done : List (List FullTx)
   pub more : List (List FullTx)

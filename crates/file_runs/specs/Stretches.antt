@@ -13,8 +13,8 @@ use Rattle.file_runs.specs.Ledgers.{LedgerOf, ledger_journals, ledger_flights, l
 use Rattle.file_runs.specs.Ledgers.{IsLedgerStored, IsLedgerQuiet}
 use Rattle.file_runs.specs.Runs.{FliesWith}
 
--- what contracts see of a ledger's nodes: of each its journal, its record in flight, how often its disk has failed and had when it was opened, and how
--- many bytes the disk may hold; and of all that each record is caused, that none is in flight, and that each disk holds its journal
+-- what contracts see of a ledger's nodes: of each its journal, its record in flight, how often its disk has failed and had when it was opened, and
+-- how many bytes the disk may hold; and of all that each record is caused, that none is in flight, and that each disk holds its journal
 pub record LedgerSight : Type 1 where
   pub shape : Shape
   pub journals : ℕ → List Record
@@ -40,8 +40,9 @@ ledger_sight device l = record {
   stored = IsLedgerStored device l;
 }
 
--- What is done, as relations between the journals before and behind it: the transactions that it hands in; those that may be next for a lane; what was
--- done where it came through; what has been begun, whatever came; and whose fault ended it, by the nodes whose disks have failed and by what disks may hold
+-- What is done, as relations between the journals before and behind it: the transactions that it hands in; those that may be next for a lane; what
+-- was done where it came through; what has been begun, whatever came; and whose fault ended it, by the nodes whose disks have failed and by what
+-- disks may hold
 pub record Deed (Done : Type 0) : Type 1 where
   pub handed : List FullTx
   pub next : Shape → (ℕ → List Record) → (ℕ → List Record) → ℕ → List Compact → Type 0

@@ -13,8 +13,8 @@ use Rattle.lane_waves.specs.Laws.{WentOn}
 use Rattle.file_runs.specs.Ledgers.{LedgerOf, IsLedger, FliesNext, ledger_journals, ledger_flights, ledger_faults, ledger_opened, ledger_capacity}
 use Rattle.file_runs.specs.Ledgers.{IsChecked, IsLedgerQuiet, KeepsLedgerOf}
 
--- from a ledger to what it is behind the wave: it is a ledger still; all that is said of a wave; checked journals stay checked; where no lane stopped,
--- and nothing was in flight before, nothing is; and what a call keeps of a ledger's nodes is kept
+-- from a ledger to what it is behind the wave: it is a ledger still; all that is said of a wave; checked journals stay checked; where no lane
+-- stopped, and nothing was in flight before, nothing is; and what a call keeps of a ledger's nodes is kept
 pub record IsWave {D : Type 0} (device : Ghosts D) (before after : LedgerOf D)
     (old new : List LaneOf) : Type 0 where
   pub ledger : IsLedger after.header after.logs after.shards
@@ -26,7 +26,8 @@ pub record IsWave {D : Type 0} (device : Ghosts D) (before after : LedgerOf D)
 
 module _ {D : Type 0} (device : Ghosts D) (h : Header) (logs shards : List (NodeOf D)) (logs' : List (NodeOf D)) (shards' : List (NodeOf D))
     (old new : List LaneOf) where
-  -- so it is where a wave ran at a ledger's nodes, each of which went on from what it was, with a journal of its header and what may come next in flight
+  -- so it is where a wave ran at a ledger's nodes, each of which went on from what it was, with a journal of its header and what may come next in
+  -- flight
   abbrev pub LedgerWaveLaw : Type 0
   LedgerWaveLaw = IsLedger h logs shards → length old ≡ h.shape.coordinators * h.shape.lanes
       → WaveRan h.shape (sight_at sight logs) (sight_at sight shards) (sight_at sight logs') (sight_at sight shards') old new

@@ -9,7 +9,7 @@ use Rattle.std.proofs.lemmas.List.Elements.{All-cons, All-head, All-tail}
 use Rattle.std.proofs.lemmas.List.FromFn.{length-map-range_with_len, length-range_with_len}
 use Rattle.std.proofs.Math.Nat.{div-eq_of_lt-le}
 use Rattle.cbdc_types.specs.Limits.{IsWithinLimits}
-use Rattle.cbdc_model.specs.Records.{Shape, Compact, Record, Genesis, Start}
+use Rattle.cbdc_model.specs.Records.{Shape, Compact, Record, Genesis, Start, Carry, CarryStart}
 use Rattle.cbdc_model.specs.Coins.{FullTx, compact, genesis_id}
 use Rattle.cbdc_model.specs.History.{minted, first_rows}
 use Rattle.cbdc_model.specs.Lanes.{IsEnd}
@@ -106,7 +106,9 @@ module _ (K : Shape) where
 none_prepared : (lane : ℕ) (J : List Record) → AllFirst J → prepared lane J ≡ []
 none_prepared lane [] first = refl
 none_prepared lane (Genesis header hs ∷ J) first = none_prepared lane J first.1
+none_prepared lane (Carry stamp header source hs numbers ∷ J) first = none_prepared lane J first.1
 none_prepared lane (Start header ∷ J) first = none_prepared lane J first.1
+none_prepared lane (CarryStart stamp header source numbers ∷ J) first = none_prepared lane J first.1
 none_prepared lane (other ∷ J) first = absurd first.0
 
 -- ---- the batches of two files, one behind the other

@@ -84,15 +84,15 @@ pub record EndsWorkload (K : Shape) (seed n : ℕ) (X : ℕ → List Record) (te
   pub counted : IsUnspentCount K X unspent
   pub text_is : text ≡ summary_text 0 (batches_for K n) (count_in is_confirmed all) (count_in is_rejected all) 0 unspent
 
--- the text of a workload where no hashes of it clash, whatever the order of the lanes' turns: all n transactions are confirmed, so many hashes are left
--- unspent, and the audit's value is the value minted, and so is that of a cut
+-- the text of a workload where no hashes of it clash, whatever the order of the lanes' turns: all n transactions are confirmed, so many hashes are
+-- left unspent, and the audit's value is the value minted, and so is that of a cut
 abbrev pub clean_text : Shape → ℕ → ℕ → Bool → Text
 clean_text K seed n watch =
     (summary_text 0 (batches_for K n) n 0 0 (left_of n) ++ audit_text (totals_of seed n)) ++ cut_text (told_if watch (value_out (mint_of seed n)))
 
--- there are journals of such a run, on such disks. The text is the numbers that end it (`EndsWorkload`), behind them the totals with which an audit finds
--- it sound, and where an auditor was to look beside the first file's lanes the value of the cut of what it saw (`IsCutValue`). Where no hashes of the
--- workload clash it is `clean_text`
+-- there are journals of such a run, on such disks. The text is the numbers that end it (`EndsWorkload`), behind them the totals with which an audit
+-- finds it sound, and where an auditor was to look beside the first file's lanes the value of the cut of what it saw (`IsCutValue`). Where no hashes
+-- of the workload clash it is `clean_text`
 pub record IsWorkloadText (K : Shape) (seed n : ℕ) (options : GenOptions) (text : Text) : Type 0 where
   pub exit : ℕ → List Record
   pub run : IsWorkloadRun K seed n exit

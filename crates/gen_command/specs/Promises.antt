@@ -9,8 +9,8 @@ use Rattle.workload.specs.Generator.{mint_of}
 use Rattle.requests.specs.declared.GenOptions.{GenOptions}
 use Rattle.gen_command.specs.Generated.{PrintsWorkload, WhyNoWorkload}
 
--- `gen` of a workload of this seed and so many transactions, over a ledger of this shape, run as the options say: the rack is as it was, and no hashes
--- clash or an audit says so
+-- `gen` of a workload of this seed and so many transactions, over a ledger of this shape, run as the options say: the rack is as it was, and no
+-- hashes clash or an audit says so
 abbrev pub gen_promise : {D : Type 0} → Ghosts D → Shape → ℕ → ℕ → GenOptions → Promise D
 gen_promise device shape seed count options = record {
   did = λ files before after printed. ((n : ℕ) → after.held n ≡ before.held n) × PrintsWorkload printed shape seed count options;

@@ -33,8 +33,8 @@ pub record IsCutVerdict (K : Shape) (mint : List Output) (handed : List FullTx) 
   pub moment : IsMoment lists rows
   pub is : IsPartVerdict K mint handed (reverse rows) verdict
 
--- between the two files, from whose journals the second file alone led to these, lists had been taken of all nodes at some moments, each a beginning of
--- its node's journal; this is the verdict on their cut, which is kept
+-- between the two files, from whose journals the second file alone led to these, lists had been taken of all nodes at some moments, each a beginning
+-- of its node's journal; this is the verdict on their cut, which is kept
 pub record HasCut (K : Shape) (seed n : ℕ) (X : ℕ → List Record) (verdict : PartVerdict) : Type 0 where
   pub middle : ℕ → List Record
   pub second : AreFilesRun K (sound_by all_good) (joins_of seed n ∷ []) middle X

@@ -14,8 +14,8 @@ use Rattle.rack_laws.specs.Making.{CanMake}
 use Rattle.rack_laws.specs.Ready.{NoneRises}
 use Rattle.init_command.specs.Outcomes.{DidInit, WhyNoInit, InitLeaves}
 
--- the file holds a mint of which a ledger can be made (`CanMake`): its values fit, no node is in use, and each disk has room for its first record and a
--- gate; and no count of faults of its nodes rises
+-- the file holds a mint of which a ledger can be made (`CanMake`): its values fit, no node is in use, and each disk has room for its first record and
+-- a gate; and no count of faults of its nodes rises
 pub record CanInit {D : Type 0} (device : Ghosts D) (before after : Scene D) (shape : Shape) (name : Text) : Type 0 where
   pub mint : List Output
   pub holds : HoldsFile before.file before.file_faults after.file_faults mint_of_file name mint

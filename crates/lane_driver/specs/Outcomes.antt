@@ -1,5 +1,5 @@
--- What a batch and a lane came to: done, or stopped at a call, with the answer of the node that was called. It is told call by call; what is left of the
--- batch and of the lane, what the fault had its cause in and where memory ran out follow from it (proofs/Outcomes.antt).
+-- What a batch and a lane came to: done, or stopped at a call, with the answer of the node that was called. It is told call by call; what is left of
+-- the batch and of the lane, what the fault had its cause in and where memory ran out follow from it (proofs/Outcomes.antt).
 use Rattle.std.specs.Prelude.{◌≡◌, ◌⊎◌, ℕ, ◌<◌, Bool, List, [], ◌∷◌, length, reverse, take, Result, Ok, Err}
 use Rattle.cbdc_types.specs.declared.calls.LockCall.{LockCall}
 use Rattle.cbdc_types.specs.declared.calls.NodeFault.{NodeFault}
@@ -19,8 +19,8 @@ use Rattle.lane_driver.specs.Reports.{AreDone}
 use Rattle.lane_driver.specs.Stops.{DriverHasNoMemory}
 use Rattle.lane_driver.specs.Showing.{LaneSights}
 
--- a batch stopped at this answer of this node: so it was told, call by call; the node is so that it answers this, as it is seen at last; and where the
--- answer is that memory ran out, the call at this node was one that takes some
+-- a batch stopped at this answer of this node: so it was told, call by call; the node is so that it answers this, as it is seen at last; and where
+-- the answer is that memory ran out, the call at this node was one that takes some
 pub record IsStop (K : Shape) (new : LaneSights) (told : ℕ → NodeFault → Type 0) (takes : ℕ → Type 0) (e : Stop) : Type 0 where
   pub told_so : told e.node e.fault
   pub cause : IsCausedStop K new.logs new.shards e.node e.fault
@@ -99,8 +99,8 @@ pub record IsLaneStop (K : Shape) (alone : Bool) (lane : ℕ) (txs : List Compac
   pub done : AreDone K alone lane txs old.home old.shards reports rest between.home between.shards
   pub ended : IsBatchEnd K alone lane (take K.batch rest) repeats between new e
 
--- what a lane came to: all its batches are done, one behind the other, each with the outcomes that it reports; or it stopped, or was not begun because
--- the driver ran out of memory
+-- what a lane came to: all its batches are done, one behind the other, each with the outcomes that it reports; or it stopped, or was not begun
+-- because the driver ran out of memory
 abbrev pub LaneResult : Shape → Bool → ℕ → List Compact → ℕ → Result LaneReport LaneFault → LaneSights → LaneSights → Type 0
 LaneResult K alone lane txs repeats (Ok r) old new = AreDone K alone lane txs old.home old.shards (reverse r.batches) [] new.home new.shards
 LaneResult K alone lane txs repeats (Err e) old new =

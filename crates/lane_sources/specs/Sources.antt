@@ -13,7 +13,8 @@ use Rattle.submissions.specs.declared.Ruled.{Ruled}
 use Rattle.submissions.specs.declared.Ruling.{Ruling}
 use Rattle.submissions.specs.declared.Ruling.TheVariants.{Refused, Sound}
 
--- what contracts see of a source: its lane, the place of its next submission in the file, what it gave last, and what was said of its submissions so far
+-- what contracts see of a source: its lane, the place of its next submission in the file, what it gave last, and what was said of its submissions so
+-- far
 pub record SourceOf : Type 0 where
   pub lane : ℕ
   pub at : ℕ

@@ -1,10 +1,11 @@
 -- Which record it is: what passes the test for a kind and a batch, and what is found by it. Each kind is gone through here once; a law then asks
 -- for the record of its own kind.
-use Rattle.std.proofs.Common.{◌≡◌, ◌⊎◌, inl, inr, ℕ, ◌+◌, ◌<◌, Bool, true, false, cond, ◌&&◌, ◌==◌, List, [], ◌∷◌, Some, None, is_some, refl, ap, ◌∙◌}
-use Rattle.std.proofs.Common.{subst, arith}
+use Rattle.std.proofs.Common.{◌≡◌, ℕ, ◌+◌, ◌<◌, Bool, true, false, cond, ◌&&◌, ◌==◌, List, [], ◌∷◌, Some, None, is_some, refl, ap, ◌∙◌, subst, arith}
 use Rattle.cbdc_model.specs.Records.{Shape, Batch, same_batch, Compact, Outcome, Answered, Record, record_of, kind_of, is_of, is_in_lane, stamp_of}
-use Rattle.cbdc_model.specs.Records.{last_stamp, Genesis, Lock, Finish, Forget, Start, Prepare, Commit, Discard, Done}
+use Rattle.cbdc_model.specs.Records.{last_stamp, Genesis, Lock, Finish, Forget, Start, Prepare, Commit, Discard, Done, Upgrade, Carry, CarryStart}
+use Rattle.cbdc_model.specs.Records.{Seal}
 use Rattle.cbdc_model.specs.After.{IsFirst}
+use Rattle.cbdc_model.specs.Lanes.{Holds}
 use Rattle.ledger_laws.proofs.Next.{Next}
 use Rattle.ledger_laws.proofs.Lookups.{not_true, true_false}
 
@@ -140,15 +141,22 @@ module _ (J : List Record) (b : Batch) where
 -- a first record is of no batch
 pub not_of_first : (r : Record) (b : Batch) → IsFirst r → is_of b r ≡ true → ⊥
 not_of_first (Genesis header hs) b first t = cc
+not_of_first (Carry stamp header source hs numbers) b first t = cc
 not_of_first (Start header) b first t = cc
+not_of_first (CarryStart stamp header source numbers) b first t = cc
 not_of_first other b first t = first
 
 -- a record of a batch is of its lane, and one of a lane is of no other
 pub of_in_lane : (b : Batch) (r : Record) → is_of b r ≡ true → is_in_lane b.lane r ≡ true
 of_in_lane b (Genesis header hs) h = cc
+of_in_lane b (Start header) h = cc
+of_in_lane b (Upgrade stamp batch) h = cc
+of_in_lane b (Carry stamp header source hs numbers) h = cc
+of_in_lane b (CarryStart stamp header source numbers) h = cc
+of_in_lane b (Seal stamp to shards) h = cc
 of_in_lane b other h = grind (arith, h)
 
--- a record's lane, 0 of a first one
+-- a record's lane, 0 of one that has none
 abbrev pub lane_in : Record → ℕ
 lane_in (Genesis header hs) = 0
 lane_in (Start header) = 0
@@ -159,15 +167,25 @@ lane_in (Prepare stamp b txs) = b.lane
 lane_in (Commit stamp b os) = b.lane
 lane_in (Discard stamp b) = b.lane
 lane_in (Done stamp b) = b.lane
+lane_in (Upgrade stamp batch) = 0
+lane_in (Carry stamp header source hs numbers) = 0
+lane_in (CarryStart stamp header source numbers) = 0
+lane_in (Seal stamp to shards) = 0
 
-pub in_own_lane : (r : Record) → IsFirst r ⊎ (is_in_lane (lane_in r) r ≡ true)
-in_own_lane (Genesis header hs) = inl tt
-in_own_lane (Start header) = inl tt
-in_own_lane other = inr (grind arith)
+-- what a lane may write is no first record
+pub held_later : (pieces : List (List Compact)) (r : Record) → Holds pieces r → IsFirst r → ⊥
+held_later pieces (Genesis header hs) held first = held
+held_later pieces (Start header) held first = held
+held_later pieces (Carry stamp header source hs numbers) held first = held
+held_later pieces (CarryStart stamp header source numbers) held first = held
+held_later pieces other held first = first
 
-pub lanes_apart : (l m : ℕ) (r : Record) → is_in_lane l r ≡ true → (l == m) ≡ false → is_in_lane m r ≡ false
-lanes_apart l m (Genesis header hs) h apart = refl
-lanes_apart l m other h apart = grind (arith, h, apart)
+-- a record of one lane that is no first record is of no other
+pub lanes_apart : (l m : ℕ) (r : Record) → (IsFirst r → ⊥) → is_in_lane l r ≡ true → (l == m) ≡ false → is_in_lane m r ≡ false
+lanes_apart l m (Genesis header hs) later h apart = refl
+lanes_apart l m (Carry stamp header source hs numbers) later h apart = absurd (later tt)
+lanes_apart l m (CarryStart stamp header source numbers) later h apart = absurd (later tt)
+lanes_apart l m other later h apart = grind (arith, h, apart)
 
 -- what a record of another lane leaves of what is found
 pub found_apart : (kind : ℕ) (r : Record) (J : List Record) (c : Batch) → is_in_lane c.lane r ≡ false → record_of kind (r ∷ J) c ≡ record_of kind J c
@@ -176,16 +194,22 @@ found_apart kind r J c h = test_step kind r J c (not_true _ (λ t. true_false _ 
 -- what is next is no first record
 pub next_not_first : (K : Shape) (node : ℕ) (J : List Record) (r : Record) → Next K node J r → IsFirst r → ⊥
 next_not_first K node J (Genesis header hs) next first = next
+next_not_first K node J (Carry stamp header source hs numbers) next first = next
 next_not_first K node J (Start header) next first = next
+next_not_first K node J (CarryStart stamp header source numbers) next first = next
 next_not_first K node J other next first = first
 
 -- what is next has a stamp above the last one, and stands at a node of the shape
 pub after_stamp : (K : Shape) (node : ℕ) (J : List Record) (r : Record) → Next K node J r → last_stamp J < stamp_of r
 after_stamp K node J (Genesis header hs) next = absurd next
+after_stamp K node J (Carry stamp header source hs numbers) next = absurd next
 after_stamp K node J (Start header) next = absurd next
+after_stamp K node J (CarryStart stamp header source numbers) next = absurd next
 after_stamp K node J other next = next.0
 
 pub at_a_node : (K : Shape) (node : ℕ) (J : List Record) (r : Record) → Next K node J r → node < K.coordinators + K.shards
 at_a_node K node J (Genesis header hs) next = absurd next
+at_a_node K node J (Carry stamp header source hs numbers) next = absurd next
 at_a_node K node J (Start header) next = absurd next
+at_a_node K node J (CarryStart stamp header source numbers) next = absurd next
 at_a_node K node J other next = omega (arith, next.1)

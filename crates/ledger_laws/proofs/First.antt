@@ -1,12 +1,13 @@
 -- The first rows have the invariant.
-use Rattle.std.proofs.Common.{◌≡◌, ◌⊎◌, inl, inr, ℕ, zero, suc, ◌+◌, ◌<◌, ◌≤◌, ◌/◌, true, false, ◌==◌, if◌then◌else◌, List, [], ◌∷◌, ◌++◌, refl, sym}
-use Rattle.std.proofs.Common.{ap, ◌∙◌, subst, arith}
+use Rattle.std.proofs.Common.{◌≡◌, ◌⊎◌, inl, inr, ℕ, zero, suc, ◌+◌, ◌<◌, ◌≤◌, ◌/◌, ◌%◌, nat_lt, length, Bool, true, false, ◌==◌, if◌then◌else◌, List}
+use Rattle.std.proofs.Common.{[], ◌∷◌, ◌++◌, refl, sym, ap, ◌∙◌, subst, arith}
 pub use Rattle.cbdc_model.specs.After.{IsFirst}
 use Rattle.cbdc_model.specs.History.{header_of, won_of, committed, all_inputs, all_outputs, starts, geneses, first_rows, Minted}
 use Rattle.cbdc_model.specs.Outcomes.{won_txs}
 use Rattle.cbdc_model.specs.Ranges.{shard_of, shard_node, journal_at, lane_journal, on_shard}
-use Rattle.cbdc_model.specs.Records.{Digest, Shape, Batch, Compact, Record, Row, journal, Genesis, Start, lock_of, txs_of, outcomes_of}
-use Rattle.cbdc_model.specs.Slots.{slot, Idle, InLock, InPrepare}
+use Rattle.cbdc_model.specs.Records.{Digest, Shape, Batch, Compact, Record, Row, journal, Genesis, Start, lock_of, txs_of, outcomes_of, Carry}
+use Rattle.cbdc_model.specs.Records.{CarryStart}
+use Rattle.cbdc_model.specs.Slots.{Slot, number_at, slot, Idle, InLock, InPrepare}
 use Rattle.cbdc_model.specs.Status.{status, has, held_inputs, Unspent, Locked, Absent}
 use Rattle.ledger_laws.proofs.Next.{has_lock, has_finish, has_prepare, has_commit, Each}
 use Rattle.ledger_laws.proofs.Counts.{count, has-count, not_has-count}
@@ -33,6 +34,10 @@ pub record Nothing (J : List Record) : Type 0 where
   txs : (b : Batch) → txs_of J b ≡ []
   outcomes : (b : Batch) → outcomes_of J b ≡ []
   pub phase : (lane : ℕ) → (slot J lane).phase ≡ Idle
+
+phase_if : (c : Bool) (s t : Slot) → s.phase ≡ Idle → t.phase ≡ Idle → (if c then s else t).phase ≡ Idle
+phase_if true s t h g = h
+phase_if false s t h g = g
 
 pub nothing : (J : List Record) → AllFirst J → Nothing J
 nothing [] h = record {
@@ -69,6 +74,32 @@ nothing (Start header ∷ J) h =
       outcomes = n.outcomes;
       phase = n.phase;
     }
+nothing (Carry stamp header source hs numbers ∷ J) h =
+    let n : Nothing J = nothing J h.1 in
+    record {
+      lock = n.lock;
+      finish = n.finish;
+      prepare = n.prepare;
+      commit = n.commit;
+      locks = n.locks;
+      txs = n.txs;
+      outcomes = n.outcomes;
+      phase = λ lane. phase_if (nat_lt lane (length numbers)) (record { number = number_at numbers lane; phase = Idle }) (slot J lane) refl
+          (n.phase lane);
+    }
+nothing (CarryStart stamp header source numbers ∷ J) h =
+    let n : Nothing J = nothing J h.1 in
+    record {
+      lock = n.lock;
+      finish = n.finish;
+      prepare = n.prepare;
+      commit = n.commit;
+      locks = n.locks;
+      txs = n.txs;
+      outcomes = n.outcomes;
+      phase = λ lane. phase_if (lane / header.shape.lanes == header.node)
+          (record { number = number_at numbers (lane % header.shape.lanes); phase = Idle }) (slot J lane) refl (n.phase lane);
+    }
 nothing (other ∷ J) h = absurd h.0
 
 pub journal_first : (n : ℕ) (rows : List Row) → RowsFirst rows → AllFirst (journal n rows)
@@ -100,7 +131,9 @@ no_committed (row ∷ rows) h = first_row row rows h.0 (no_committed rows h.1)
         of_record : (node : ℕ) (r : Record) (rows : List Row) → IsFirst r → committed rows ≡ []
             → committed (record { node = node; what = r } ∷ rows) ≡ []
         of_record node (Genesis header hs) rows first e = rw e
+        of_record node (Carry stamp header source hs numbers) rows first e = rw e
         of_record node (Start header) rows first e = rw e
+        of_record node (CarryStart stamp header source numbers) rows first e = rw e
         of_record node other rows first e = absurd first
 
 -- the journals of the first rows

@@ -4,7 +4,7 @@ use Rattle.std.proofs.Common.{subst, arith}
 use Rattle.std.specs.List.{AllByRecursion}
 use Rattle.std.proofs.lemmas.List.Elements.{recursion_from_All}
 use Rattle.cbdc_model.specs.Records.{Digest, Shape, Batch, same_batch, Compact, Outcome, Record, Row, journal, record_of, kind_of, is_of, is_in_lane}
-use Rattle.cbdc_model.specs.Records.{entries_in, lock_of, txs_of, Lock, Forget, Commit, Done}
+use Rattle.cbdc_model.specs.Records.{entries_in, lock_of, txs_of, Lock, Forget, Commit, Done, Carry, CarryStart}
 use Rattle.cbdc_model.specs.Slots.{slot, Idle}
 use Rattle.cbdc_model.specs.Status.{status, Locked}
 use Rattle.cbdc_model.specs.Ranges.{shard_node, Concerned}
@@ -21,6 +21,7 @@ use Rattle.ledger_laws.proofs.Recovered.{all_dones, all_phases}
 use Rattle.ledger_laws.proofs.Last as last
 use Rattle.ledger_laws.proofs.Phases.{in_order}
 use Rattle.ledger_laws.proofs.Older.{all_older}
+use Rattle.ledger_laws.proofs.Begun.{not_begun}
 
 pub both_same : (c b : Batch) → (c.lane == b.lane) ≡ true → c.number ≡ b.number → same_batch c b ≡ true
 both_same c b l n = grind arith
@@ -76,20 +77,24 @@ module _ (K : Shape) (minting : Minted) (P : Compact → Type 0) (shards : 0 < K
   forgot_here s b some n p = elim (last.last_of (J (shard_node K s)) b.lane) as
       (λ o. last.last_of (J (shard_node K s)) b.lane ≡ o → has_forget (J (shard_node K s)) b ≡ true) [
         | None ↦ λ e. absurd (let z : (slot (J (shard_node K s)) b.lane).number ≡ 0 =
-            ap (λ q. q.number) (last.slot_is (J (shard_node K s)) b.lane ∙ ap last.slot_by e) in omega arith)
+            ap (λ q. q.number) (last.slot_is (J (shard_node K s)) b.lane ∙ ap (last.slot_by b.lane) e) in omega arith)
         | Some r ↦ λ e. of_record r e (last.last_in_lane (J (shard_node K s)) b.lane r e)
-            (sym (ap (λ q. q.number) (last.slot_is (J (shard_node K s)) b.lane ∙ ap last.slot_by e)) ∙ n)
-            (sym (ap (λ q. q.phase) (last.slot_is (J (shard_node K s)) b.lane ∙ ap last.slot_by e)) ∙ p)
+            (sym (ap (λ q. q.number) (last.slot_is (J (shard_node K s)) b.lane ∙ ap (last.slot_by b.lane) e)) ∙ n)
+            (sym (ap (λ q. q.phase) (last.slot_is (J (shard_node K s)) b.lane ∙ ap (last.slot_by b.lane) e)) ∙ p)
       ] refl
     where
       of_record : (r : Record) → last.last_of (J (shard_node K s)) b.lane ≡ Some r → is_in_lane b.lane r ≡ true
-          → (last.slot_by (Some r)).number ≡ b.number
-          → (last.slot_by (Some r)).phase ≡ Idle → has_forget (J (shard_node K s)) b ≡ true
+          → (last.slot_by b.lane (Some r)).number ≡ b.number
+          → (last.slot_by b.lane (Some r)).phase ≡ Idle → has_forget (J (shard_node K s)) b ≡ true
       of_record (Forget stamp c) e l m i = ap is_some (last.last_found (J (shard_node K s)) 4 b (Forget stamp c) e (both_same c b l m))
       of_record (Done stamp c) e l m i =
           absurd (true_false _ ((all_phases K minting P shards later kept (shard_node K s)).done_prepared b
           (ap is_some (last.last_found (J (shard_node K s)) 9 b (Done stamp c) e (both_same c b l m)))).0
           ((all_dones K minting P shards later kept (shard_node K s)).pure b (omega arith)))
+      of_record (Carry stamp header source hs numbers) e l m i =
+          absurd (not_begun K minting P later kept (shard_node K s) b.lane (Carry stamp header source hs numbers) e tt)
+      of_record (CarryStart stamp header source numbers) e l m i =
+          absurd (not_begun K minting P later kept (shard_node K s) b.lane (CarryStart stamp header source numbers) e tt)
       of_record other e l m i = cc
 
   pub finished_here : (s : ℕ) (b : Batch) → has_forget (J (shard_node K s)) b ≡ true → has_finish (J (shard_node K s)) b ≡ true

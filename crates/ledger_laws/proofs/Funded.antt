@@ -2,7 +2,7 @@
 use Rattle.std.proofs.Common.{◌≡◌, ℕ, ◌+◌, ◌-◌, ◌<◌, ◌≤◌, List, [], ◌∷◌, ◌++◌, refl, sym, ap, ◌∙◌, subst, arith, append-nil}
 use Rattle.cbdc_model.specs.Causes.{IsCaused}
 use Rattle.cbdc_model.specs.History.{first_rows, committed, newly_won, all_inputs, all_outputs, Minted}
-use Rattle.cbdc_model.specs.Records.{Digest, Shape, Batch, Compact, Outcome, Record, Row, journal, Genesis, Start, Commit}
+use Rattle.cbdc_model.specs.Records.{Digest, Shape, Batch, Compact, Outcome, Record, Row, journal, Genesis, Start, Commit, Carry, CarryStart}
 use Rattle.ledger_laws.proofs.Next.{Next, Steady}
 use Rattle.ledger_laws.proofs.Counts.{count, count-append}
 use Rattle.ledger_laws.proofs.View.{View, Inv, none, some, none_or_some}
@@ -69,7 +69,9 @@ module _ (K : Shape) (minting : Minted) (P : Compact → Type 0) (shards : 0 < K
       → (node : ℕ) (r : Record) → Next K node (journal node past) r → IsCaused K (λ n. journal n past) node r
       → Funded (λ x. count x minting.hashes) (committed (record { node = node; what = r } ∷ past))
   funded_next past st inv f node (Genesis header hs) next caused = absurd next
+  funded_next past st inv f node (Carry stamp header source hs numbers) next caused = absurd next
   funded_next past st inv f node (Start header) next caused = absurd next
+  funded_next past st inv f node (CarryStart stamp header source numbers) next caused = absurd next
   funded_next past st inv f node (Commit stamp b os) next caused =
       funded-append (λ x. count x minting.hashes) (committed past) _ f
       (funded_commit past st inv f node stamp b os next caused)

@@ -3,7 +3,7 @@ use Rattle.std.proofs.Common.{◌≡◌, ◌⊎◌, inl, inr, ℕ, ◌/◌, Bool
 use Rattle.cbdc_model.specs.Causes.{IsCaused}
 use Rattle.cbdc_model.specs.Ranges.{shard_node, lane_journal, part}
 use Rattle.cbdc_model.specs.Records.{Shape, Batch, same_batch, Compact, Outcome, Answered, Record, Row, journal, Genesis, Lock, Finish, Start}
-use Rattle.cbdc_model.specs.Records.{Prepare, Commit, lock_of, txs_of}
+use Rattle.cbdc_model.specs.Records.{Prepare, Commit, lock_of, txs_of, Carry, CarryStart}
 use Rattle.cbdc_model.specs.Replies.{entries}
 use Rattle.ledger_laws.proofs.Next.{Next, has_lock, has_finish, has_prepare, has_commit, Each, AllProper}
 use Rattle.ledger_laws.proofs.View.{same, other, same_or_not, same_batch_is}
@@ -46,6 +46,16 @@ module _ (K : Shape) (P : Compact → Type 0) (past : List Row) (st : Structure 
           (same_txs (journal (b.lane / K.lanes) past) b))) (st.proper b);
     }
 
+lock_or_old : (node stamp : ℕ) (b : Batch) (es : List Answered) (past : List Row) (n : ℕ) (c : Batch)
+    → has_lock (journal n (record { node = node; what = Lock stamp b es } ∷ past)) c ≡ true
+    → ((same_batch b c ≡ true) × (node ≡ n)) ⊎ (has_lock (journal n past) c ≡ true)
+lock_or_old node stamp b es past n c h = grind arith
+
+finish_or_old : (node stamp : ℕ) (b : Batch) (ds : List Bool) (past : List Row) (n : ℕ) (c : Batch)
+    → has_finish (journal n (record { node = node; what = Finish stamp b ds } ∷ past)) c ≡ true
+    → ((same_batch b c ≡ true) × (node ≡ n)) ⊎ (has_finish (journal n past) c ≡ true)
+finish_or_old node stamp b ds past n c h = grind arith
+
 module _ (K : Shape) (P : Compact → Type 0) (past : List Row) (st : Structure K P past) where
   -- Lock
   module _ (node stamp : ℕ) (b : Batch) (es : List Answered)
@@ -55,7 +65,7 @@ module _ (K : Shape) (P : Compact → Type 0) (past : List Row) (st : Structure 
 
     new_lock : (n : ℕ) (c : Batch) → has_lock (journal n (record { node = node; what = Lock stamp b es } ∷ past)) c ≡ true
         → ((same_batch b c ≡ true) × (node ≡ n)) ⊎ (has_lock (journal n past) c ≡ true)
-    new_lock n c h = grind arith
+    new_lock n c h = lock_or_old node stamp b es past n c h
 
     same_prepare : (n : ℕ) (c : Batch) → has_prepare (journal n (record { node = node; what = Lock stamp b es } ∷ past)) c
         ≡ has_prepare (journal n past) c
@@ -176,7 +186,7 @@ module _ (K : Shape) (P : Compact → Type 0) (past : List Row) (st : Structure 
       (next : Next K node (journal node past) (Finish stamp b ds)) (caused : IsCaused K (λ n. journal n past) node (Finish stamp b ds)) where
     new_finish : (n : ℕ) (c : Batch) → has_finish (journal n (record { node = node; what = Finish stamp b ds } ∷ past)) c ≡ true
         → ((same_batch b c ≡ true) × (node ≡ n)) ⊎ (has_finish (journal n past) c ≡ true)
-    new_finish n c h = grind arith
+    new_finish n c h = finish_or_old node stamp b ds past n c h
 
     pub finish_keeps : Structure K P (record { node = node; what = Finish stamp b ds } ∷ past)
     finish_keeps = record {
@@ -204,7 +214,9 @@ pub keeps : (K : Shape) (P : Compact → Type 0) (past : List Row) → Structure
     → Next K node (journal node past) r → IsCaused K (λ n. journal n past) node r → AllProper P r
     → Structure K P (record { node = node; what = r } ∷ past)
 keeps K P past st node (Genesis header hs) next caused proper = absurd next
+keeps K P past st node (Carry stamp header source hs numbers) next caused proper = absurd next
 keeps K P past st node (Start header) next caused proper = absurd next
+keeps K P past st node (CarryStart stamp header source numbers) next caused proper = absurd next
 keeps K P past st node (Lock stamp b es) next caused proper = lock_keeps K P past st node stamp b es next caused
 keeps K P past st node (Finish stamp b ds) next caused proper = finish_keeps K P past st node stamp b ds next caused
 keeps K P past st node (Prepare stamp b txs) next caused proper = prepare_keeps K P past st node stamp b txs next proper

@@ -1,43 +1,56 @@
 -- The last record of a lane in a journal, against the slot.
-use Rattle.std.proofs.Common.{◌≡◌, ◌⊎◌, inl, inr, ℕ, Bool, true, false, cond, ◌&&◌, ◌==◌, if◌then◌else◌, List, [], ◌∷◌, Option, Some, None, is_some}
-use Rattle.std.proofs.Common.{find, refl, sym, ap, ◌∙◌, subst, arith}
+use Rattle.std.proofs.Common.{◌≡◌, ◌⊎◌, inl, inr, ℕ, ◌%◌, Bool, true, false, cond, ◌&&◌, ◌==◌, if◌then◌else◌, List, [], ◌∷◌, Option, Some, None}
+use Rattle.std.proofs.Common.{is_some, find, refl, sym, ap, ◌∙◌, subst, arith}
 use Rattle.cbdc_model.specs.Records.{Batch, Record, record_of, kind_of, is_of, is_in_lane, stamp_of, stamp_in, Genesis, Lock, Finish, Forget, Start}
-use Rattle.cbdc_model.specs.Records.{Prepare, Commit, Discard, Done}
-use Rattle.cbdc_model.specs.Slots.{Phase, Slot, slot, slot_stamp, Idle, InLock, InFinish, InPrepare, InCommit, InDiscard}
+use Rattle.cbdc_model.specs.Records.{Prepare, Commit, Discard, Done, Upgrade, Carry, CarryStart, Seal}
+use Rattle.cbdc_model.specs.After.{IsFirst}
+use Rattle.cbdc_model.specs.Slots.{Phase, Slot, number_at, slot, slot_stamp, Idle, InLock, InFinish, InPrepare, InCommit, InDiscard}
 use Rattle.ledger_laws.proofs.ByKind.{some_is, of_in_lane}
 
 abbrev pub last_of : List Record → ℕ → Option Record
 last_of J lane = find (λ r. is_in_lane lane r) J
 
-abbrev pub slot_by : Option Record → Slot
-slot_by None = record { number = 0; phase = Idle }
-slot_by (Some (Genesis header hs)) = record { number = 0; phase = Idle }
-slot_by (Some (Lock stamp b es)) = record { number = b.number; phase = InLock }
-slot_by (Some (Finish stamp b ds)) = record { number = b.number; phase = InFinish }
-slot_by (Some (Forget stamp b)) = record { number = b.number; phase = Idle }
-slot_by (Some (Start header)) = record { number = 0; phase = Idle }
-slot_by (Some (Prepare stamp b txs)) = record { number = b.number; phase = InPrepare }
-slot_by (Some (Commit stamp b os)) = record { number = b.number; phase = InCommit }
-slot_by (Some (Discard stamp b)) = record { number = b.number; phase = InDiscard }
-slot_by (Some (Done stamp b)) = record { number = b.number; phase = Idle }
+abbrev pub slot_by : ℕ → Option Record → Slot
+slot_by lane None = record { number = 0; phase = Idle }
+slot_by lane (Some (Genesis header hs)) = record { number = 0; phase = Idle }
+slot_by lane (Some (Lock stamp b es)) = record { number = b.number; phase = InLock }
+slot_by lane (Some (Finish stamp b ds)) = record { number = b.number; phase = InFinish }
+slot_by lane (Some (Forget stamp b)) = record { number = b.number; phase = Idle }
+slot_by lane (Some (Start header)) = record { number = 0; phase = Idle }
+slot_by lane (Some (Prepare stamp b txs)) = record { number = b.number; phase = InPrepare }
+slot_by lane (Some (Commit stamp b os)) = record { number = b.number; phase = InCommit }
+slot_by lane (Some (Discard stamp b)) = record { number = b.number; phase = InDiscard }
+slot_by lane (Some (Done stamp b)) = record { number = b.number; phase = Idle }
+slot_by lane (Some (Upgrade stamp batch)) = record { number = 0; phase = Idle }
+slot_by lane (Some (Carry stamp header source hs numbers)) = record { number = number_at numbers lane; phase = Idle }
+slot_by lane (Some (CarryStart stamp header source numbers)) = record { number = number_at numbers (lane % header.shape.lanes); phase = Idle }
+slot_by lane (Some (Seal stamp to shards)) = record { number = 0; phase = Idle }
 
 -- what a record leaves in a lane's slot
-pub slot_next : (r : Record) (J : List Record) (lane : ℕ) → slot (r ∷ J) lane ≡ (if is_in_lane lane r then slot_by (Some r) else slot J lane)
+pub slot_next : (r : Record) (J : List Record) (lane : ℕ) → slot (r ∷ J) lane ≡ (if is_in_lane lane r then slot_by lane (Some r) else slot J lane)
 slot_next (Genesis header hs) J lane = refl
 slot_next other J lane = refl
 
-slot_head : (c : Bool) (r : Option Record) (rest : Option Record) (s : Slot) → s ≡ slot_by rest
-    → (if c then slot_by r else s) ≡ slot_by (cond c r rest)
-slot_head true r rest s e = refl
-slot_head false r rest s e = e
+slot_head : (lane : ℕ) (c : Bool) (r : Option Record) (rest : Option Record) (s : Slot) → s ≡ slot_by lane rest
+    → (if c then slot_by lane r else s) ≡ slot_by lane (cond c r rest)
+slot_head lane true r rest s e = refl
+slot_head lane false r rest s e = e
 
-pub slot_is : (J : List Record) (lane : ℕ) → slot J lane ≡ slot_by (last_of J lane)
+pub slot_is : (J : List Record) (lane : ℕ) → slot J lane ≡ slot_by lane (last_of J lane)
 slot_is [] lane = refl
-slot_is (r ∷ J) lane = slot_next r J lane ∙ slot_head (is_in_lane lane r) (Some r) (last_of J lane) (slot J lane) (slot_is J lane)
+slot_is (r ∷ J) lane = slot_next r J lane ∙ slot_head lane (is_in_lane lane r) (Some r) (last_of J lane) (slot J lane) (slot_is J lane)
+
+-- a first record leaves a lane idle
+pub first_idle : (lane : ℕ) (r : Record) → IsFirst r → (slot_by lane (Some r)).phase ≡ Idle
+first_idle lane (Genesis header hs) first = refl
+first_idle lane (Start header) first = refl
+first_idle lane (Carry stamp header source hs numbers) first = refl
+first_idle lane (CarryStart stamp header source numbers) first = refl
+first_idle lane other first = absurd first
 
 -- a record of one lane leaves the slots of the others
 pub slot_stays : (r : Record) (J : List Record) (lane : ℕ) → is_in_lane lane r ≡ false → slot (r ∷ J) lane ≡ slot J lane
-slot_stays r J lane h = slot_next r J lane ∙ ap (λ c. if c then slot_by (Some r) else slot J lane) h
+slot_stays r J lane h = slot_next r J lane ∙ ap (λ c. if c then slot_by lane (Some r) else slot J lane) h
 
 second : (a b : Bool) → (a && b) ≡ true → b ≡ true
 second a b h = grind arith
@@ -77,30 +90,48 @@ last_in_lane (q ∷ J) lane r e = step q J lane r e (λ g. last_in_lane J lane r
         ] refl e
 
 -- a record of the lane with the slot's number is of the batch
-of_number : (b : Batch) (r : Record) → is_in_lane b.lane r ≡ true → (slot_by (Some r)).number ≡ b.number → is_of b r ≡ true
-of_number b (Genesis header hs) l n = l
-of_number b other l n = grind (arith, l, n)
+of_number : (b : Batch) (r : Record) → (IsFirst r → ⊥) → is_in_lane b.lane r ≡ true → (slot_by b.lane (Some r)).number ≡ b.number → is_of b r ≡ true
+of_number b (Genesis header hs) later l n = l
+of_number b (Carry stamp header source hs numbers) later l n = absurd (later tt)
+of_number b (CarryStart stamp header source numbers) later l n = absurd (later tt)
+of_number b other later l n = grind (arith, l, n)
 
 own_test : (b : Batch) (r : Record) → is_of b r ≡ true → ((kind_of r == kind_of r) && is_of b r) ≡ true
 own_test b r i = grind (arith, i)
 
+-- whether a record is a first one
+pub first_or_later : (r : Record) → IsFirst r ⊎ (IsFirst r → ⊥)
+first_or_later (Genesis header hs) = inl tt
+first_or_later (Start header) = inl tt
+first_or_later (Carry stamp header source hs numbers) = inl tt
+first_or_later (CarryStart stamp header source numbers) = inl tt
+first_or_later other = inr (λ h. h)
+
 -- what the last record is, by the phase
 pub data LastIs (J : List Record) (b : Batch) : Type 0 where
   nothing_yet : slot_stamp J b.lane ≡ 0 → (slot J b.lane).phase ≡ Idle → LastIs J b
+  begun : (r : Record) → IsFirst r → last_of J b.lane ≡ Some r → (slot J b.lane).phase ≡ Idle → LastIs J b
   of_kind : (kind : ℕ) (r : Record) → record_of kind J b ≡ Some r → slot_stamp J b.lane ≡ stamp_of r → (kind_of r ≡ kind)
-      → (slot J b.lane).phase ≡ (slot_by (Some r)).phase → LastIs J b
+      → (slot J b.lane).phase ≡ (slot_by b.lane (Some r)).phase → LastIs J b
 
 pub last_is : (J : List Record) (b : Batch) → (slot J b.lane).number ≡ b.number → LastIs J b
 last_is J b n = elim (last_of J b.lane) as (λ r. last_of J b.lane ≡ r → LastIs J b) [
-  | None ↦ λ e. nothing_yet (ap stamp_in e) (ap (λ s. s.phase) (slot_is J b.lane ∙ ap slot_by e))
-  | Some r ↦ λ e. of_record J b r e (sym (ap (λ s. s.number) (slot_is J b.lane ∙ ap slot_by e)) ∙ n) (last_in_lane J b.lane r e)
+  | None ↦ λ e. nothing_yet (ap stamp_in e) (ap (λ s. s.phase) (slot_is J b.lane ∙ ap (slot_by b.lane) e))
+  | Some r ↦ λ e. of_record J b r e (sym (ap (λ s. s.number) (slot_is J b.lane ∙ ap (slot_by b.lane) e)) ∙ n) (last_in_lane J b.lane r e)
 ] refl
   where
-    of_record : (J : List Record) (b : Batch) (r : Record) → last_of J b.lane ≡ Some r → (slot_by (Some r)).number ≡ b.number
+    of_later : (J : List Record) (b : Batch) (r : Record) → (IsFirst r → ⊥) → last_of J b.lane ≡ Some r → (slot_by b.lane (Some r)).number ≡ b.number
         → is_in_lane b.lane r ≡ true → LastIs J b
-    of_record J b r e n l =
-        of_kind (kind_of r) r (last_found J (kind_of r) b r e (own_test b r (of_number b r l n))) (ap stamp_in e) refl
-        (ap (λ s. s.phase) (slot_is J b.lane ∙ ap slot_by e))
+    of_later J b r later e n l =
+        of_kind (kind_of r) r (last_found J (kind_of r) b r e (own_test b r (of_number b r later l n))) (ap stamp_in e) refl
+        (ap (λ s. s.phase) (slot_is J b.lane ∙ ap (slot_by b.lane) e))
+
+    of_record : (J : List Record) (b : Batch) (r : Record) → last_of J b.lane ≡ Some r → (slot_by b.lane (Some r)).number ≡ b.number
+        → is_in_lane b.lane r ≡ true → LastIs J b
+    of_record J b r e n l = elim (first_or_later r) [
+      | inl first ↦ begun r first e (ap (λ s. s.phase) (slot_is J b.lane ∙ ap (slot_by b.lane) e) ∙ first_idle b.lane r first)
+      | inr later ↦ of_later J b r later e n l
+    ]
 
 -- the kind of the record that leaves a lane in a phase; it is not told of an idle one
 abbrev pub kind_in : Phase → ℕ
@@ -111,26 +142,31 @@ kind_in InPrepare = 6
 kind_in InCommit = 7
 kind_in InDiscard = 8
 
-by_phase : (r : Record) → ((slot_by (Some r)).phase ≡ Idle) ⊎ (kind_of r ≡ kind_in (slot_by (Some r)).phase)
-by_phase (Genesis header hs) = inl refl
-by_phase (Start header) = inl refl
-by_phase (Forget stamp b) = inl refl
-by_phase (Done stamp b) = inl refl
-by_phase other = inr refl
+by_phase : (lane : ℕ) (r : Record) → ((slot_by lane (Some r)).phase ≡ Idle) ⊎ (kind_of r ≡ kind_in (slot_by lane (Some r)).phase)
+by_phase lane (Genesis header hs) = inl refl
+by_phase lane (Start header) = inl refl
+by_phase lane (Forget stamp b) = inl refl
+by_phase lane (Done stamp b) = inl refl
+by_phase lane (Upgrade stamp batch) = inl refl
+by_phase lane (Carry stamp header source hs numbers) = inl refl
+by_phase lane (CarryStart stamp header source numbers) = inl refl
+by_phase lane (Seal stamp to shards) = inl refl
+by_phase lane other = inr refl
 
 -- the last record of the batch of a slot that is not idle
 pub record LastStands (J : List Record) (b : Batch) : Type 0 where
   pub last : Record
   pub stands : record_of (kind_in (slot J b.lane).phase) J b ≡ Some last
   pub stamp : slot_stamp J b.lane ≡ stamp_of last
-  pub phase : (slot_by (Some last)).phase ≡ (slot J b.lane).phase
+  pub phase : (slot_by b.lane (Some last)).phase ≡ (slot J b.lane).phase
 
 pub last_stands : (J : List Record) (b : Batch) → (slot J b.lane).number ≡ b.number → ((slot J b.lane).phase ≡ Idle → ⊥) → LastStands J b
 last_stands J b n busy = from (last_is J b n)
   where
     from : LastIs J b → LastStands J b
     from (nothing_yet z i) = absurd (busy i)
-    from (of_kind kind r e w k q) = elim (by_phase r) [
+    from (begun r first e i) = absurd (busy i)
+    from (of_kind kind r e w k q) = elim (by_phase b.lane r) [
       | inl i ↦ absurd (busy (q ∙ i))
       | inr m ↦ record {
         last = r;

@@ -2,7 +2,7 @@
 use Rattle.std.proofs.Common.{◌≡◌, ◌⊎◌, inl, inr, ℕ, ◌+◌, ◌-◌, ◌^◌, ◌<◌, ◌≤◌, ◌/◌, true, false, ◌&&◌, ◌==◌, List, [], ◌∷◌, ◌++◌, Some, None, is_some}
 use Rattle.std.proofs.Common.{refl, sym, ap, ◌∙◌, subst, arith}
 use Rattle.cbdc_model.specs.Records.{Shape, Batch, Compact, Record, Row, journal, record_of, kind_of, is_of, stamp_in, lock_of, txs_of, Genesis, Lock}
-use Rattle.cbdc_model.specs.Records.{Finish, Forget, Start, Prepare, Commit, Discard, Done}
+use Rattle.cbdc_model.specs.Records.{Finish, Forget, Start, Prepare, Commit, Discard, Done, Upgrade, Carry, CarryStart, Seal}
 use Rattle.cbdc_model.specs.Ranges.{shard_node, Concerned}
 use Rattle.cbdc_model.specs.Grammar.{IsInGrammar}
 use Rattle.cbdc_model.specs.Slots.{slot, InPrepare, InCommit, InDiscard}
@@ -51,6 +51,10 @@ module _ (K : Shape) (n : ℕ) (J : List Record) (ok : JournalOk J) (more : More
       let e : c ≡ b = same_batch_is c b t in
       true_false _ h (more.in_discard b (subst (λ d. (slot J d.lane).phase ≡ InDiscard) e next.3)
       (subst (λ d. (slot J d.lane).number ≡ d.number) e next.4))
+  nothing_behind (Carry stamp header source hs numbers) b next t h = next
+  nothing_behind (CarryStart stamp header source numbers) b next t h = next
+  nothing_behind (Upgrade stamp batch) b next t h = cc
+  nothing_behind (Seal stamp to shards) b next t h = cc
   nothing_behind other b next t h = at_shard b next.1.0 h
 
 record LastDone (J : List Record) : Type 0 where
@@ -141,6 +145,10 @@ module _ (K : Shape) (minting : Minted) (P : Compact → Type 0) (shards : 0 < K
             → is_some (record_of 6 (J (b.lane / K.lanes)) b) ≡ true
         by_record (Genesis header hs) e i t f w = absurd w.1
         by_record (Start header) e i t f w = absurd w.1
+        by_record (Carry stamp header source hs numbers) e i t f w = absurd w.1
+        by_record (CarryStart stamp header source numbers) e i t f w = absurd w.1
+        by_record (Upgrade stamp batch) e i t f w = absurd (let z : false ≡ true = i in cc)
+        by_record (Seal stamp to shards) e i t f w = absurd (let z : false ≡ true = i in cc)
         by_record (Lock stamp c es) e i t f w = subst (λ d. is_some (record_of 6 (J (d.lane / K.lanes)) d) ≡ true) (same_batch_is c b i) f.0
         by_record (Finish stamp c ds) e i t f w =
             ((all_structure K minting P shards later kept).journals (b.lane / K.lanes)).commit_prepared b
@@ -193,6 +201,10 @@ module _ (K : Shape) (minting : Minted) (P : Compact → Type 0) (shards : 0 < K
             → stamp_in (record_of kind (J n) b) ≤ stamp_in (record_of 9 (J (b.lane / K.lanes)) b)
         by_record (Genesis header hs) e i t f w = absurd w.1
         by_record (Start header) e i t f w = absurd w.1
+        by_record (Carry stamp header source hs numbers) e i t f w = absurd w.1
+        by_record (CarryStart stamp header source numbers) e i t f w = absurd w.1
+        by_record (Upgrade stamp batch) e i t f w = absurd (let z : false ≡ true = i in cc)
+        by_record (Seal stamp to shards) e i t f w = absurd (let z : false ≡ true = i in cc)
         by_record (Lock stamp c es) e i t f w =
             through 7 2 (split_test 2 kind c b t).0 (shard_is w.1.1.0)
             (older_locks K minting P shards later kept b committed (n - K.coordinators)

@@ -2,7 +2,8 @@
 use Rattle.std.proofs.Common.{◌≡◌, ℕ, ◌+◌, ◌<◌, List, [], ◌∷◌, ◌++◌, Some, sym, ◌∙◌, arith}
 use Rattle.std.specs.List.{All, AllByRecursion}
 use Rattle.std.proofs.lemmas.List.Elements.{All-from_recursion, recursion_from_All}
-use Rattle.cbdc_model.specs.Records.{Shape, Digest, Compact, Record, Row, journal, Genesis, Lock, Forget, Start, Prepare, Commit}
+use Rattle.cbdc_model.specs.Records.{Shape, Digest, Compact, Record, Row, journal, Genesis, Lock, Forget, Start, Prepare, Commit, Upgrade, Carry}
+use Rattle.cbdc_model.specs.Records.{CarryStart, Seal}
 use Rattle.cbdc_model.specs.Grammar.{IsInGrammar}
 use Rattle.cbdc_model.specs.After.{After, Follows}
 use Rattle.cbdc_model.specs.History.{Minted, header_of, first_rows, TxsPass, IsSteady, IsOrdered}
@@ -24,6 +25,11 @@ pub next_of : (K : Shape) (id : Digest) (node : ℕ) (past : List Record) (r : R
     → After (header_of K id node) past r → Next K node past r
 next_of K id node past (Genesis header hs) some h = absurd (some h.0.2.1 h.1)
 next_of K id node past (Start header) some h = absurd (some (omega (arith, h.0.2)) h.1)
+next_of K id node past (Carry stamp header source hs numbers) some h = absurd h.0
+next_of K id node past (CarryStart stamp header source numbers) some h = absurd h.0
+next_of K id node past (Upgrade stamp batch) some h = absurd h.0
+next_of K id node past (Seal stamp to shards) some h = absurd h.0
+next_of K id node past (Prepare stamp b txs) some h = (h.1.0, h.0.2, h.1.1, h.1.2, h.1.3, h.1.4)
 next_of K id node past (Lock stamp b es) some h = (h.1.0, h.0.2, h.1.1, h.1.2, h.1.3, h.0.3.0)
 next_of K id node past (Forget stamp b) some h = (h.1.0, h.0.2, h.1.1, h.1.2)
 next_of K id node past (Commit stamp b os) some h = (h.1.0, h.0.2, h.1.1, h.1.2, h.1.3, h.1.4)
@@ -32,6 +38,11 @@ next_of K id node past other some h = (h.1.0, h.0.2, h.1.1, h.1.2, h.1.3)
 follows_of : (K : Shape) (id : Digest) (node : ℕ) (past : List Record) (r : Record) → Next K node past r → Follows (header_of K id node) past r
 follows_of K id node past (Genesis header hs) n = absurd n
 follows_of K id node past (Start header) n = absurd n
+follows_of K id node past (Carry stamp header source hs numbers) n = absurd n
+follows_of K id node past (CarryStart stamp header source numbers) n = absurd n
+follows_of K id node past (Upgrade stamp batch) n = (n.0, n.2, n.3)
+follows_of K id node past (Seal stamp to shards) n = (n.0, n.2, n.3)
+follows_of K id node past (Prepare stamp b txs) n = (n.0, n.2, n.3, n.4, n.5)
 follows_of K id node past (Forget stamp b) n = (n.0, n.2, n.3)
 follows_of K id node past (Commit stamp b os) n = (n.0, n.2, n.3, n.4, n.5)
 follows_of K id node past other n = (n.0, n.2, n.3, n.4)

@@ -38,6 +38,7 @@ pub mod Recovery
 pub mod Makers
 pub mod Order
 pub mod Last
+pub mod Begun
 pub mod Reaching
 pub mod OneHistory
 pub mod Answered

@@ -7,7 +7,7 @@ use Rattle.cbdc_model.specs.Outcomes.{outcomes, decisions}
 use Rattle.cbdc_model.specs.Ranges.{shard_node, part, Concerned, is_no_part}
 use Rattle.cbdc_model.specs.Records.{Shape, Batch, same_batch, Compact, Answered, Entry, Record, Row, journal, record_of, kind_of, is_of, stamp_of}
 use Rattle.cbdc_model.specs.Records.{stamp_in, entries_in, txs_in, outcomes_in, last_stamp, Genesis, Lock, Finish, Forget, Start, Prepare, Commit}
-use Rattle.cbdc_model.specs.Records.{Discard, Done, lock_of, txs_of}
+use Rattle.cbdc_model.specs.Records.{Discard, Done, lock_of, txs_of, Upgrade, Carry, CarryStart, Seal}
 use Rattle.cbdc_model.specs.Replies.{entries}
 use Rattle.cbdc_model.specs.Slots.{slot, Idle, InFinish}
 use Rattle.ledger_laws.proofs.Next.{Next, has_lock, Steady}
@@ -32,6 +32,11 @@ module _ (K : Shape) (node : ℕ) (J : List Record) (ok : JournalOk J) (more : M
       → is_some (record_of kind J c) ≡ true → ⊥
   once (Genesis header hs) next kind c h = absurd next
   once (Start header) next kind c h = absurd next
+  once (Carry stamp header source hs numbers) next kind c h = absurd next
+  once (CarryStart stamp header source numbers) next kind c h = absurd next
+  once (Upgrade stamp batch) next kind c h = absurd (let z : is_of c (Upgrade stamp batch) ≡ true = test_batch kind c (Upgrade stamp batch) h in cc)
+  once (Seal stamp to shards) next kind c h = absurd
+      (let z : is_of c (Seal stamp to shards) ≡ true = test_batch kind c (Seal stamp to shards) h in cc)
   once (Lock stamp b es) next kind c h = new_one 2 kind b c h (λ f. omega (arith, ok.lock_below b f, next.3))
   once (Finish stamp b ds) next kind c h = new_one 3 kind b c h (λ f. true_false _ f (ok.locked b next.2 next.3).1)
   once (Forget stamp b) next kind c h = new_one 4 kind b c h (λ f. true_false _ f (more.in_finish b next.2 next.3).1)
@@ -71,6 +76,10 @@ pub caused_same : (K : Shape) (I J : ℕ → List Record) (node : ℕ) (r : Reco
     → IsCaused K J node r
 caused_same K I J node (Genesis header hs) own same c = tt
 caused_same K I J node (Start header) own same c = tt
+caused_same K I J node (Carry stamp header source hs numbers) own same c = tt
+caused_same K I J node (CarryStart stamp header source numbers) own same c = tt
+caused_same K I J node (Upgrade stamp batch) own same c = subst (λ o. IsStamped stamp o 0) own c
+caused_same K I J node (Seal stamp to shards) own same c = subst (λ o. IsStamped stamp o 0) own c
 caused_same K I J node (Prepare stamp b txs) own same c = subst (λ o. IsStamped stamp o 0) own c
 caused_same K I J node (Lock stamp b es) own same c = (
   subst (λ r. is_some r ≡ true) same c.0,
@@ -101,7 +110,9 @@ not_empty (a ∷ es) p e n = subst (λ q. is_no_part q ≡ false) e refl
 -- a row at a shard's node is at a shard of the shape
 pub in_range : (K : Shape) (node : ℕ) (J : List Record) (r : Record) → Next K node J r → (s : ℕ) → node ≡ shard_node K s → s < K.shards
 in_range K node J (Genesis header hs) next s e = absurd next
+in_range K node J (Carry stamp header source hs numbers) next s e = absurd next
 in_range K node J (Start header) next s e = absurd next
+in_range K node J (CarryStart stamp header source numbers) next s e = absurd next
 in_range K node J other next s e = omega (arith, next.1)
 
 -- a record that stays caused while another node's journal has grown by one
@@ -131,7 +142,9 @@ module _ (K : Shape) (P : Compact → Type 0) (past : List Row) (st : Structure 
       subst (λ d. is_no_part (part K.shards s 0 (txs_of (journal (d.lane / K.lanes) past) d)) ≡ false) (split_test 2 2 b c h).1
       (not_empty es _ (caused.1 s e) next.5)
   concerned_new (Genesis header hs) node next caused s e c h = absurd next
+  concerned_new (Carry stamp header source hs numbers) node next caused s e c h = absurd next
   concerned_new (Start header) node next caused s e c h = absurd next
+  concerned_new (CarryStart stamp header source numbers) node next caused s e c h = absurd next
   concerned_new other node next caused s e c h = absurd (let z : false ≡ true = h in cc)
 
   abbrev pub IsShardKind : ℕ → Type 0

@@ -1,11 +1,11 @@
 -- The next record of a node as one product of facts, and kept histories as their rows say it, with the grammar beside.
 use Rattle.std.proofs.Common.{◌≡◌, ℕ, ◌+◌, ◌/◌, ◌<◌, Bool, List, [], ◌∷◌, ◌++◌, length, is_some}
 use Rattle.cbdc_model.specs.Records.{Shape, Batch, Compact, Record, Row, record_of, lock_of, txs_of, last_stamp, journal, Genesis, Lock, Finish}
-use Rattle.cbdc_model.specs.Records.{Forget, Start, Prepare, Commit, Discard, Done}
+use Rattle.cbdc_model.specs.Records.{Forget, Start, Prepare, Commit, Discard, Done, Upgrade, Carry, CarryStart, Seal}
 use Rattle.cbdc_model.specs.Slots.{slot, Idle, InLock, InFinish, InPrepare, InCommit, InDiscard}
 use Rattle.cbdc_model.specs.Replies.{answered, entries}
 use Rattle.cbdc_model.specs.Grammar.{IsShard, IsInGrammar}
-use Rattle.cbdc_model.specs.After.{FitsReplies}
+use Rattle.cbdc_model.specs.After.{FitsReplies, IsAtRest, IsUnsealed}
 use Rattle.cbdc_model.specs.Causes.{IsCaused}
 use Rattle.cbdc_model.specs.History.{Minted, header_of, first_rows}
 
@@ -32,6 +32,10 @@ has_discard past b = is_some (record_of 8 past b)
 abbrev pub Next : Shape → ℕ → List Record → Record → Type 0
 Next K node past (Genesis header hs) = ⊥
 Next K node past (Start header) = ⊥
+Next K node past (Carry stamp header source hs numbers) = ⊥
+Next K node past (CarryStart stamp header source numbers) = ⊥
+Next K node past (Upgrade stamp batch) = (last_stamp past < stamp) × (node < K.coordinators + K.shards) × IsAtRest K past × IsUnsealed past
+Next K node past (Seal stamp to shards) = (last_stamp past < stamp) × (node < K.coordinators) × IsAtRest K past × IsUnsealed past
 Next K node past (Lock stamp b es) =
     (last_stamp past < stamp) × IsShard K node
     × ((slot past b.lane).phase ≡ Idle) × ((slot past b.lane).number < b.number)
@@ -45,7 +49,7 @@ Next K node past (Forget stamp b) =
     × ((slot past b.lane).phase ≡ InFinish) × ((slot past b.lane).number ≡ b.number)
 Next K node past (Prepare stamp b txs) =
     (last_stamp past < stamp) × (node < K.coordinators) × (node ≡ b.lane / K.lanes)
-    × ((slot past b.lane).phase ≡ Idle) × (b.number ≡ (slot past b.lane).number + 1)
+    × ((slot past b.lane).phase ≡ Idle) × (b.number ≡ (slot past b.lane).number + 1) × IsUnsealed past
 Next K node past (Commit stamp b os) =
     (last_stamp past < stamp) × (node < K.coordinators) × (node ≡ b.lane / K.lanes)
     × ((slot past b.lane).phase ≡ InPrepare) × ((slot past b.lane).number ≡ b.number)

@@ -2,7 +2,7 @@
 use Rattle.std.proofs.Common.{◌≡◌, ℕ, ◌<◌, ◌≤◌, Bool, true, false, if◌then◌else◌, List, [], ◌∷◌, ◌++◌, Some, is_some, refl, sym, ap, ◌∙◌, subst}
 use Rattle.std.proofs.Common.{arith}
 use Rattle.cbdc_model.specs.Records.{Digest, Shape, Batch, Compact, Outcome, Answered, Record, Row, journal, same_batch, record_of, lock_of, txs_of}
-use Rattle.cbdc_model.specs.Records.{outcomes_of, decisions_in, entries_in, stamp_in, last_stamp, Genesis, Lock, Finish, Start}
+use Rattle.cbdc_model.specs.Records.{outcomes_of, decisions_in, entries_in, stamp_in, last_stamp, Genesis, Lock, Finish, Start, Carry, CarryStart}
 use Rattle.cbdc_model.specs.Status.{Status, status, has, held_inputs, made_outputs, returned_inputs, taken_inputs, finished_status, Unspent, Locked}
 use Rattle.cbdc_model.specs.Status.{Absent}
 use Rattle.cbdc_model.specs.Replies.{entries}
@@ -153,7 +153,9 @@ module _ (x : Digest) (J : List Record) (ok : JournalOk J) (order : OrderOk J) (
 next_older : (K : Shape) (node : ℕ) (x : Digest) (J : List Record) (r : Record) → JournalOk J → OrderOk J → Next K node J r → Older x J
     → Older x (r ∷ J)
 next_older K node x J (Genesis header hs) ok order next was = absurd next
+next_older K node x J (Carry stamp header source hs numbers) ok order next was = absurd next
 next_older K node x J (Start header) ok order next was = absurd next
+next_older K node x J (CarryStart stamp header source numbers) ok order next was = absurd next
 next_older K node x J (Lock stamp d es) ok order next was = lock_older x J ok order was stamp d es next.0 next.3
 next_older K node x J (Finish stamp d ds) ok order next was = finish_older x J ok order was stamp d ds
 next_older K node x J another ok order next was = record { locked = was.locked; older = was.older }
@@ -164,7 +166,12 @@ never_locked x (Genesis header hs ∷ J) first c e = elim (has hs x) as (λ v. (
   | true ↦ λ e. not_locked c e
   | false ↦ λ e. never_locked x J first.1 c e
 ] e
+never_locked x (Carry stamp header source hs numbers ∷ J) first c e = elim (has hs x) as (λ v. (if v then Unspent else status J x) ≡ Locked c → ⊥) [
+  | true ↦ λ e. not_locked c e
+  | false ↦ λ e. never_locked x J first.1 c e
+] e
 never_locked x (Start header ∷ J) first c e = never_locked x J first.1 c e
+never_locked x (CarryStart stamp header source numbers ∷ J) first c e = never_locked x J first.1 c e
 never_locked x (another ∷ J) first c e = absurd first.0
 
 pub decisions-decided : (os : List Outcome) (es : List Answered) → decisions os (entries es) ≡ decided (won_at os) es

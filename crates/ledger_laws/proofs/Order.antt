@@ -1,6 +1,7 @@
 -- Stamps in one journal: a Done of an earlier batch is older than a Prepare of a later one; and what a lane's last record is.
 use Rattle.std.proofs.Common.{◌≡◌, ℕ, ◌<◌, ◌≤◌, true, false, ◌&&◌, ◌==◌, List, ◌∷◌, is_some, refl, sym, ap, ◌∙◌, subst, arith}
-use Rattle.cbdc_model.specs.Records.{Shape, Batch, Record, record_of, kind_of, is_of, stamp_of, stamp_in, last_stamp, Genesis, Start, Done}
+use Rattle.cbdc_model.specs.Records.{Shape, Batch, Record, record_of, kind_of, is_of, stamp_of, stamp_in, last_stamp, Genesis, Start, Done, Carry}
+use Rattle.cbdc_model.specs.Records.{CarryStart}
 use Rattle.cbdc_model.specs.Slots.{slot}
 use Rattle.ledger_laws.proofs.Next.{Next}
 use Rattle.ledger_laws.proofs.Slots.{JournalOk}
@@ -21,7 +22,9 @@ done_number K node J (Done stamp d) ok next c b lanes lt t prepared =
     let m : (slot J b.lane).number ≡ c.number = subst (λ l. (slot J l).number ≡ c.number) lanes n in
     omega (arith, ok.prepare_below b prepared)
 done_number K node J (Genesis header hs) ok next c b lanes lt t prepared = absurd next
+done_number K node J (Carry stamp header source hs numbers) ok next c b lanes lt t prepared = absurd next
 done_number K node J (Start header) ok next c b lanes lt t prepared = absurd next
+done_number K node J (CarryStart stamp header source numbers) ok next c b lanes lt t prepared = absurd next
 done_number K node J other ok next c b lanes lt t prepared = absurd (let z : false ≡ true = t in cc)
 
 -- one record is no Done and no Prepare at once

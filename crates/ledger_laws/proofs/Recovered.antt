@@ -6,7 +6,7 @@ use Rattle.cbdc_model.specs.History.{first_rows, won_of, all_outputs, Minted}
 use Rattle.cbdc_model.specs.Outcomes.{won_txs, won_at}
 use Rattle.cbdc_model.specs.Ranges.{shard_of, shard_node, journal_at, part, Concerned, is_no_part}
 use Rattle.cbdc_model.specs.Records.{Digest, Shape, Batch, Compact, Outcome, Entry, Record, Row, journal, record_of, kind_of, is_of, txs_in, Genesis}
-use Rattle.cbdc_model.specs.Records.{Start, Done, lock_of, txs_of, outcomes_of}
+use Rattle.cbdc_model.specs.Records.{Start, Done, lock_of, txs_of, outcomes_of, Carry, CarryStart}
 use Rattle.cbdc_model.specs.Replies.{entries}
 use Rattle.cbdc_model.specs.Slots.{slot, Idle, InFinish}
 use Rattle.cbdc_model.specs.Status.{status, held_inputs, Locked}
@@ -98,7 +98,9 @@ module _ (K : Shape) (minting : Minted) (P : Compact → Type 0) (shards : 0 < K
       subst (λ d. AllHave K (λ n. journal n past) 4 d × (has_prepare (journal node past) d ≡ true)) (split_test 9 9 c b t).1
       (caused.0, (phases.discard_here c next.3 next.4).0)
   done_caused past node (Genesis header hs) b phases next caused t = absurd next
+  done_caused past node (Carry stamp header source hs numbers) b phases next caused t = absurd next
   done_caused past node (Start header) b phases next caused t = absurd next
+  done_caused past node (CarryStart stamp header source numbers) b phases next caused t = absurd next
   done_caused past node other b phases next caused t = absurd (let z : false ≡ true = t in cc)
 
   -- what all concerned shards have they keep

@@ -8,7 +8,7 @@ use Rattle.cbdc_model.specs.Outcomes.{decisions, won_at, reply_at}
 use Rattle.cbdc_model.specs.Ranges.{shard_node, part, Concerned, on_shard, is_empty}
 use Rattle.cbdc_model.specs.Records.{Shape, Batch, Compact, Outcome, Reply, Answered, Entry, Record, Row, journal, record_of, kind_of, is_held}
 use Rattle.cbdc_model.specs.Records.{stamp_of, stamp_in, entries_in, txs_in, outcomes_in, decisions_in, Genesis, Finish, Forget, Start, Prepare}
-use Rattle.cbdc_model.specs.Records.{Commit, Discard, Done, lock_of, txs_of}
+use Rattle.cbdc_model.specs.Records.{Commit, Discard, Done, lock_of, txs_of, is_of, Upgrade, Carry, CarryStart, Seal}
 use Rattle.cbdc_model.specs.Replies.{entries}
 use Rattle.cbdc_model.specs.Slots.{slot, slot_stamp, Idle, InLock, InFinish, InPrepare, InCommit, InDiscard}
 use Rattle.ledger_laws.proofs.Next.{has_lock, has_finish, has_prepare, has_forget, Steady}
@@ -22,9 +22,10 @@ use Rattle.ledger_laws.proofs.First.{AllFirst, journal_first, all_first}
 use Rattle.ledger_laws.proofs.Moves.{none_of, not_empty, all_structure, all_more}
 use Rattle.ledger_laws.proofs.Recovered.{all_dones, all_phases, done_forgot}
 use Rattle.ledger_laws.proofs.Standing.{Facts, standing}
-use Rattle.ledger_laws.proofs.ByKind.{found_finish, found_done}
+use Rattle.ledger_laws.proofs.ByKind.{found_finish, found_done, test_batch, found_passes}
 use Rattle.ledger_laws.proofs.Order.{OrderOk, next_order}
-use Rattle.ledger_laws.proofs.Last.{LastIs, nothing_yet, of_kind, last_is, slot_by, phase_stamp}
+use Rattle.ledger_laws.proofs.Last.{LastIs, nothing_yet, begun, of_kind, last_is, slot_by, phase_stamp}
+use Rattle.ledger_laws.proofs.Begun.{not_begun}
 
 first_order : (J : List Record) → AllFirst J → OrderOk J
 first_order J first = record {
@@ -193,8 +194,13 @@ module _ (K : Shape) (minting : Minted) (P : Compact → Type 0) (shards : 0 < K
             (batch_at b.lane (slot (J (shard_node K s)) b.lane).number) (ap is_some e)).0
             (pure s (batch_at b.lane (slot (J (shard_node K s)) b.lane).number))
 
+        of_none : (r : Record) (kind : ℕ) → record_of kind (J (shard_node K s)) (batch_at b.lane (slot (J (shard_node K s)) b.lane).number) ≡ Some r
+            → is_of (batch_at b.lane (slot (J (shard_node K s)) b.lane).number) r ≡ true
+        of_none r kind e = test_batch kind (batch_at b.lane (slot (J (shard_node K s)) b.lane).number) r
+            (found_passes kind (J (shard_node K s)) (batch_at b.lane (slot (J (shard_node K s)) b.lane).number) r e)
+
         to_kind : (kind : ℕ) (r : Record) → record_of kind (J (shard_node K s)) (batch_at b.lane (slot (J (shard_node K s)) b.lane).number) ≡ Some r
-            → kind_of r ≡ kind → (slot_by (Some r)).phase ≡ Idle → stamp_of r < cause
+            → kind_of r ≡ kind → (slot_by b.lane (Some r)).phase ≡ Idle → stamp_of r < cause
         to_kind kind (Forget stamp c) e k p = by_forget (Forget stamp c)
             (subst (λ n. record_of n (J (shard_node K s)) (batch_at b.lane (slot (J (shard_node K s)) b.lane).number) ≡ Some (Forget stamp c))
             (sym k) e)
@@ -203,11 +209,18 @@ module _ (K : Shape) (minting : Minted) (P : Compact → Type 0) (shards : 0 < K
             ≡ Some (Done stamp c)) (sym k) e))
         to_kind kind (Genesis header hs) e k p = positive
         to_kind kind (Start header) e k p = positive
+        to_kind kind (Carry stamp header source hs numbers) e k p =
+            absurd (let z : false ≡ true = of_none (Carry stamp header source hs numbers) kind e in cc)
+        to_kind kind (CarryStart stamp header source numbers) e k p =
+            absurd (let z : false ≡ true = of_none (CarryStart stamp header source numbers) kind e in cc)
+        to_kind kind (Upgrade stamp batch) e k p = absurd (let z : false ≡ true = of_none (Upgrade stamp batch) kind e in cc)
+        to_kind kind (Seal stamp to shards) e k p = absurd (let z : false ≡ true = of_none (Seal stamp to shards) kind e in cc)
         to_kind kind other e k p = cc
 
         by_last : LastIs (J (shard_node K s)) (batch_at b.lane (slot (J (shard_node K s)) b.lane).number)
             → slot_stamp (J (shard_node K s)) b.lane < cause
         by_last (nothing_yet z p) = let q : 0 < cause = positive in omega arith
+        by_last (begun r first e p) = absurd (not_begun K minting P later kept (shard_node K s) b.lane r e first)
         by_last (of_kind kind r e w k p) = let q : stamp_of r < cause = to_kind kind r e k (sym p ∙ idle) in omega arith
 
     three_ways : (m n : ℕ) → (m < n) ⊎ (m ≡ n) ⊎ (n < m)

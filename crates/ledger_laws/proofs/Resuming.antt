@@ -1,4 +1,5 @@
--- What is still to come of a lane's open batch may be written: the Locks of a prepared batch, its Commit, the Finishes, the Discard, the Forgets, the Done.
+-- What is still to come of a lane's open batch may be written: the Locks of a prepared batch, its Commit, the Finishes, the Discard, the Forgets, the
+-- Done.
 use Rattle.std.proofs.Common.{◌≡◌, inl, inr, ℕ, zero, suc, ◌+◌, ◌^◌, ◌<◌, ◌≤◌, ◌/◌, max, true, false, ◌&&◌, ◌==◌, List, [], ◌∷◌, ◌++◌, length, Some}
 use Rattle.std.proofs.Common.{is_some, refl, sym, ap, ◌∙◌, subst, arith}
 use Rattle.std.specs.List.{AllByRecursion}

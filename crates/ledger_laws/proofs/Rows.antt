@@ -3,7 +3,7 @@ use Rattle.std.proofs.Common.{◌≡◌, ℕ, ◌+◌, ◌/◌, true, false, ◌
 use Rattle.cbdc_model.specs.History.{won_of, committed, newly_won, all_inputs, all_outputs}
 use Rattle.cbdc_model.specs.Outcomes.{won_txs}
 use Rattle.cbdc_model.specs.Ranges.{shard_of, shard_node, journal_at, lane_journal, part}
-use Rattle.cbdc_model.specs.Records.{Digest, Shape, Batch, Compact, Record, Row, journal, Genesis, Finish, lock_of, txs_of, outcomes_of}
+use Rattle.cbdc_model.specs.Records.{Digest, Shape, Batch, Compact, Record, Row, journal, Genesis, Finish, lock_of, txs_of, outcomes_of, Carry}
 use Rattle.cbdc_model.specs.Replies.{entries}
 use Rattle.cbdc_model.specs.Status.{status, held_inputs, made_outputs}
 use Rattle.ledger_laws.proofs.Next.{Next, has_lock, has_finish, has_prepare, has_commit, Each}
@@ -15,6 +15,7 @@ use Rattle.ledger_laws.proofs.View.{View}
 abbrev pub arrived : List Record → Digest → ℕ
 arrived [] x = 0
 arrived (Genesis header hs ∷ past) x = count x hs + arrived past x
+arrived (Carry stamp header source hs numbers ∷ past) x = count x hs + arrived past x
 arrived (Finish stamp b ds ∷ past) x = count x (made_outputs (lock_of past b) ds) + arrived past x
 arrived (other ∷ past) x = arrived past x
 

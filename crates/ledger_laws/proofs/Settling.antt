@@ -3,7 +3,7 @@ use Rattle.std.proofs.Common.{◌≡◌, ℕ, ◌/◌, ◌<◌, ◌≤◌, true,
 use Rattle.cbdc_model.specs.History.{first_rows, Minted, minted}
 use Rattle.cbdc_model.specs.Ranges.{shard_node}
 use Rattle.cbdc_model.specs.Records.{Shape, Batch, same_batch, Compact, Record, Row, journal, record_of, stamp_of, stamp_in, last_stamp, is_in_lane}
-use Rattle.cbdc_model.specs.Records.{Genesis, Lock, Finish, Forget, Start, Prepare, Commit, Discard, Done, lock_of}
+use Rattle.cbdc_model.specs.Records.{Genesis, Lock, Finish, Forget, Start, Prepare, Commit, Discard, Done, lock_of, Upgrade, Carry, CarryStart, Seal}
 use Rattle.cbdc_model.specs.Slots.{slot, slot_stamp, Idle, InLock, InFinish, InPrepare, InCommit, InDiscard}
 use Rattle.ledger_laws.proofs.Next.{has_lock, has_finish, has_forget, has_prepare, Steady}
 use Rattle.ledger_laws.proofs.Rows.{Structure}
@@ -18,6 +18,7 @@ use Rattle.ledger_laws.proofs.Ledger.{steady}
 use Rattle.ledger_laws.specs.Laws.{SettledLaw}
 use Rattle.cbdc_model.specs.Clean.{IsProperCompact}
 use Rattle.ledger_laws.proofs.Last.{last_of, slot_by, slot_is, last_found, last_in_lane}
+use Rattle.ledger_laws.proofs.Begun.{not_begun}
 
 module _ (K : Shape) (minting : Minted) (P : Compact → Type 0) (shards : 0 < K.shards) (later : List Row) (kept : Steady K minting P later)
     (lane : ℕ) where
@@ -66,9 +67,10 @@ module _ (K : Shape) (minting : Minted) (P : Compact → Type 0) (shards : 0 < K
   pub shard_number : (s : ℕ) → (slot (J (shard_node K s)) lane).number ≤ (slot (J (lane / K.lanes)) lane).number
   shard_number s = elim (last_of (J (shard_node K s)) lane) as
       (λ o. last_of (J (shard_node K s)) lane ≡ o → (slot (J (shard_node K s)) lane).number ≤ (slot (J (lane / K.lanes)) lane).number) [
-        | None ↦ λ e. (let z : (slot (J (shard_node K s)) lane).number ≡ 0 = ap (λ q. q.number) (slot_is (J (shard_node K s)) lane ∙ ap slot_by e) in
-            omega arith)
-        | Some r ↦ λ e. of_record r (ap (λ q. q.number) (slot_is (J (shard_node K s)) lane ∙ ap slot_by e)) e
+        | None ↦ λ e. (let z : (slot (J (shard_node K s)) lane).number ≡ 0 =
+            ap (λ q. q.number) (slot_is (J (shard_node K s)) lane ∙ ap (slot_by lane) e)
+            in omega arith)
+        | Some r ↦ λ e. of_record r (ap (λ q. q.number) (slot_is (J (shard_node K s)) lane ∙ ap (slot_by lane) e)) e
             (last_in_lane (J (shard_node K s)) lane r e)
       ] refl
     where
@@ -79,11 +81,17 @@ module _ (K : Shape) (minting : Minted) (P : Compact → Type 0) (shards : 0 < K
       itself : (c : Batch) → ((8 == 8) && same_batch c c) ≡ true
       itself c = same_batch_self c
 
-      of_record : (r : Record) → (slot (J (shard_node K s)) lane).number ≡ (slot_by (Some r)).number → last_of (J (shard_node K s)) lane ≡ Some r
-          → is_in_lane lane r ≡ true
+      of_record : (r : Record) → (slot (J (shard_node K s)) lane).number ≡ (slot_by lane (Some r)).number
+          → last_of (J (shard_node K s)) lane ≡ Some r → is_in_lane lane r ≡ true
           → (slot (J (shard_node K s)) lane).number ≤ (slot (J (lane / K.lanes)) lane).number
       of_record (Genesis header hs) n e l = absurd (let z : false ≡ true = l in cc)
       of_record (Start header) n e l = absurd (let z : false ≡ true = l in cc)
+      of_record (Upgrade stamp batch) n e l = absurd (let z : false ≡ true = l in cc)
+      of_record (Seal stamp to shards) n e l = absurd (let z : false ≡ true = l in cc)
+      of_record (Carry stamp header source hs numbers) n e l =
+          absurd (not_begun K minting P later kept (shard_node K s) lane (Carry stamp header source hs numbers) e tt)
+      of_record (CarryStart stamp header source numbers) n e l =
+          absurd (not_begun K minting P later kept (shard_node K s) lane (CarryStart stamp header source numbers) e tt)
       of_record (Lock stamp c es) n e l =
           let f : record_of 2 (J (shard_node K s)) (B c.number) ≡ Some (Lock stamp c es) =
           last_found (J (shard_node K s)) 2 (B c.number) (Lock stamp c es) e (test 2 c.number c l refl) in
@@ -139,7 +147,7 @@ module _ (K : Shape) (minting : Minted) (P : Compact → Type 0) (shards : 0 < K
   shard_stamp idle s lt = elim (last_of (J (shard_node K s)) lane) as
       (λ o. last_of (J (shard_node K s)) lane ≡ o → stamp_in o ≤ last_stamp (J (lane / K.lanes))) [
         | None ↦ λ e. omega arith
-        | Some r ↦ λ e. of_record r (sym (ap (λ q. q.phase) (slot_is (J (shard_node K s)) lane ∙ ap slot_by e)) ∙ shard_idle idle s lt) e
+        | Some r ↦ λ e. of_record r (sym (ap (λ q. q.phase) (slot_is (J (shard_node K s)) lane ∙ ap (slot_by lane) e)) ∙ shard_idle idle s lt) e
             (last_in_lane (J (shard_node K s)) lane r e)
       ] refl
     where
@@ -147,10 +155,16 @@ module _ (K : Shape) (minting : Minted) (P : Compact → Type 0) (shards : 0 < K
           → ((kind == kind) && same_batch c (record { lane = lane; number = n })) ≡ true
       test kind n c l e = grind (arith, l, e)
 
-      of_record : (r : Record) → (slot_by (Some r)).phase ≡ Idle → last_of (J (shard_node K s)) lane ≡ Some r → is_in_lane lane r ≡ true
+      of_record : (r : Record) → (slot_by lane (Some r)).phase ≡ Idle → last_of (J (shard_node K s)) lane ≡ Some r → is_in_lane lane r ≡ true
           → stamp_of r ≤ last_stamp (J (lane / K.lanes))
       of_record (Genesis header hs) i e l = absurd (let z : false ≡ true = l in cc)
       of_record (Start header) i e l = absurd (let z : false ≡ true = l in cc)
+      of_record (Upgrade stamp batch) i e l = absurd (let z : false ≡ true = l in cc)
+      of_record (Seal stamp to shards) i e l = absurd (let z : false ≡ true = l in cc)
+      of_record (Carry stamp header source hs numbers) i e l =
+          absurd (not_begun K minting P later kept (shard_node K s) lane (Carry stamp header source hs numbers) e tt)
+      of_record (CarryStart stamp header source numbers) i e l =
+          absurd (not_begun K minting P later kept (shard_node K s) lane (CarryStart stamp header source numbers) e tt)
       of_record (Lock stamp c es) i e l = absurd (let z : InLock ≡ Idle = i in cc)
       of_record (Finish stamp c ds) i e l = absurd (let z : InFinish ≡ Idle = i in cc)
       of_record (Prepare stamp c txs) i e l = absurd (let z : InPrepare ≡ Idle = i in cc)

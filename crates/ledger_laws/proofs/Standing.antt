@@ -6,7 +6,8 @@ use Rattle.cbdc_model.specs.History.{first_rows, Minted}
 use Rattle.cbdc_model.specs.Outcomes.{outcomes, decisions}
 use Rattle.cbdc_model.specs.Ranges.{shard_node, part, Concerned}
 use Rattle.cbdc_model.specs.Records.{Shape, Batch, Compact, Record, Row, journal, record_of, kind_of, is_of, stamp_in, entries_in, txs_in}
-use Rattle.cbdc_model.specs.Records.{outcomes_in, Genesis, Lock, Finish, Forget, Start, Prepare, Commit, Discard, Done}
+use Rattle.cbdc_model.specs.Records.{outcomes_in, Genesis, Lock, Finish, Forget, Start, Prepare, Commit, Discard, Done, Upgrade, Carry, CarryStart}
+use Rattle.cbdc_model.specs.Records.{Seal}
 use Rattle.cbdc_model.specs.Replies.{entries}
 use Rattle.ledger_laws.proofs.Next.{Next, Steady}
 use Rattle.ledger_laws.proofs.ByKind.{some_is, found_new}
@@ -26,6 +27,10 @@ AllOlder K J kind b stamp = (s : ℕ) → s < K.shards → stamp_in (at_shards K
 abbrev pub Facts : Shape → (ℕ → List Record) → ℕ → Record → Type 0
 Facts K J node (Genesis header hs) = Unit {0}
 Facts K J node (Start header) = Unit {0}
+Facts K J node (Carry stamp header source hs numbers) = Unit {0}
+Facts K J node (CarryStart stamp header source numbers) = Unit {0}
+Facts K J node (Upgrade stamp batch) = Unit {0}
+Facts K J node (Seal stamp to shards) = Unit {0}
 Facts K J node (Prepare stamp b txs) = 0 < stamp
 Facts K J node (Lock stamp b es) =
     let cause = record_of 6 (J (b.lane / K.lanes)) b in
@@ -46,6 +51,10 @@ pub facts_now : (K : Shape) (J : ℕ → List Record) (node : ℕ) (r : Record) 
     → IsCaused K J node r → Facts K J node r
 facts_now K J node (Genesis header hs) ok phases next c = tt
 facts_now K J node (Start header) ok phases next c = tt
+facts_now K J node (Carry stamp header source hs numbers) ok phases next c = tt
+facts_now K J node (CarryStart stamp header source numbers) ok phases next c = tt
+facts_now K J node (Upgrade stamp batch) ok phases next c = tt
+facts_now K J node (Seal stamp to shards) ok phases next c = tt
 facts_now K J node (Prepare stamp b txs) ok phases next c = omega (arith, next.0)
 facts_now K J node (Lock stamp b es) ok phases next c = (c.0, c.1, omega (arith, c.2))
 facts_now K J node (Finish stamp b ds) ok phases next c = (c.0, (ok.locked b next.2 next.3).0, c.1, omega (arith, c.2))
@@ -90,6 +99,10 @@ module _ (K : Shape) (P : Compact → Type 0) (past : List Row) (st : Structure 
   pub facts_stay : (node : ℕ) (r : Record) → Facts K (λ n. journal n past) node r → Facts K (λ n. journal n (row ∷ past)) node r
   facts_stay node (Genesis header hs) f = tt
   facts_stay node (Start header) f = tt
+  facts_stay node (Carry stamp header source hs numbers) f = tt
+  facts_stay node (CarryStart stamp header source numbers) f = tt
+  facts_stay node (Upgrade stamp batch) f = tt
+  facts_stay node (Seal stamp to shards) f = tt
   facts_stay node (Prepare stamp b txs) f = f
   facts_stay node (Lock stamp b es) f =
       let e = keep 6 (b.lane / K.lanes) b f.0 in

@@ -7,7 +7,7 @@ use Rattle.cbdc_model.specs.History.{won_of, committed, all_inputs, all_outputs}
 use Rattle.cbdc_model.specs.Outcomes.{won_txs, won_at, decisions, reply_at}
 use Rattle.cbdc_model.specs.Ranges.{shard_of, shard_node, journal_at, lane_journal, part, is_no_part, on_shard, is_empty}
 use Rattle.cbdc_model.specs.Records.{Digest, Shape, Batch, same_batch, Compact, Outcome, Answered, Entry, Reply, Record, Row, journal, is_held}
-use Rattle.cbdc_model.specs.Records.{is_won, Genesis, Lock, Finish, Start, Prepare, Commit, lock_of, txs_of, outcomes_of}
+use Rattle.cbdc_model.specs.Records.{is_won, Genesis, Lock, Finish, Start, Prepare, Commit, lock_of, txs_of, outcomes_of, Carry, CarryStart}
 use Rattle.cbdc_model.specs.Replies.{entries}
 use Rattle.cbdc_model.specs.Status.{Status, status, has, held_inputs, made_outputs, taken_inputs, returned_inputs, finished_status, Unspent, Locked}
 use Rattle.cbdc_model.specs.Status.{Absent}
@@ -465,7 +465,9 @@ pub view_step : (K : Shape) (P : Compact → Type 0) {genesis : Digest → ℕ} 
     → (node : ℕ) (r : Record) → Next K node (journal node past) r → IsCaused K (λ n. journal n past) node r
     → ViewStep P (view K past) (view K (record { node = node; what = r } ∷ past))
 view_step K P past shards apart st node (Genesis header hs) next caused = absurd next
+view_step K P past shards apart st node (Carry stamp header source hs numbers) next caused = absurd next
 view_step K P past shards apart st node (Start header) next caused = absurd next
+view_step K P past shards apart st node (CarryStart stamp header source numbers) next caused = absurd next
 view_step K P past shards apart st node (Lock stamp b es) next caused =
     let step = lock_changes K P past st apart node stamp b es next caused in by_lock b step.0 step.1
 view_step K P past shards apart st node (Finish stamp b ds) next caused = by_finish b (finish_changes K P past st node stamp b ds next caused)

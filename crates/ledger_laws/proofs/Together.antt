@@ -10,7 +10,7 @@ use Rattle.cbdc_model.specs.Grammar.{IsInGrammar}
 use Rattle.cbdc_model.specs.After.{After}
 use Rattle.ledger_laws.proofs.Ledger.{next_behind, each_is, SteadyJournals, SteadyLists, EachSteady, SteadyWorld}
 use Rattle.ledger_laws.proofs.Next.{Next, Steady, AllProper}
-use Rattle.ledger_laws.proofs.ByKind.{lane_in, in_own_lane, next_not_first, after_stamp, at_a_node}
+use Rattle.ledger_laws.proofs.ByKind.{after_stamp, at_a_node}
 use Rattle.ledger_laws.proofs.Rows.{at, away, at_node, head_at, head_away, journal-append}
 use Rattle.ledger_laws.proofs.Locals.{local_kept}
 use Rattle.ledger_laws.proofs.Cuts.{cut, end_self, end_trans, seen_grows, cons_same}
@@ -227,7 +227,6 @@ module _ (K : Shape) (minting : Minted) (P : Compact → Type 0) (shards : 0 < K
 
       fresh : (n : ℕ) (newer rest : List Record) (r : Record) → X n ≡ newer ++ r ∷ rest → IsEnd (E n) rest
           → Next K n rest r × Seen K X n rest r × AllProper P r × IsInGrammar (header_of K minting.id n) r
-      fresh n newer rest r e h = elim (in_own_lane r) [
-        | inl first ↦ absurd (next_not_first K n rest r (next_here n rest r h (wave.next n newer rest r e h)) first)
-        | inr own ↦ of_lane (lane_in r) n newer rest r e h own (wave.next n newer rest r e h)
-      ]
+      fresh n newer rest r e h =
+          let own = wave.in_lanes n newer rest r e h in
+          of_lane own.0 n newer rest r e h own.1 (wave.next n newer rest r e h)

@@ -9,7 +9,7 @@ use Rattle.cbdc_model.specs.History.{Minted}
 use Rattle.cbdc_model.specs.World.{World, Event, Begin, End, node_at, journals, Run}
 use Rattle.ledger_laws.specs.Resumed.{IsNoPrepare, BeginNoPrepare}
 use Rattle.ledger_laws.proofs.Rows.{at, away, at_node}
-use Rattle.ledger_laws.proofs.ByKind.{test_batch, of_in_lane, lanes_apart}
+use Rattle.ledger_laws.proofs.ByKind.{test_batch, not_of_first, of_in_lane, lanes_apart}
 use Rattle.ledger_laws.proofs.Last.{slot_stays}
 use Rattle.ledger_laws.proofs.Ledger.{SteadyWorld, after_of, passes_of}
 use Rattle.ledger_laws.proofs.Worlds.{run_keeps}
@@ -22,7 +22,7 @@ begin-append (e ∷ es) fs h g = (h.0, begin-append es fs h.1 g)
 
 -- a record of a lane leaves the slots of the others
 other_slots : (r : Record) (b : Batch) (J : List Record) (lane : ℕ) → is_of b r ≡ true → (b.lane == lane) ≡ false → slot (r ∷ J) lane ≡ slot J lane
-other_slots r b J lane h apart = slot_stays r J lane (lanes_apart b.lane lane r (of_in_lane b r h) apart)
+other_slots r b J lane h apart = slot_stays r J lane (lanes_apart b.lane lane r (λ first. not_of_first r b first h) (of_in_lane b r h) apart)
 
 -- a journal that stays or grows by a record that is no Prepare
 pub data Grows (J I : List Record) : Type 0 where

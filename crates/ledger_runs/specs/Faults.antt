@@ -51,8 +51,8 @@ pub data IsWanted (K : Shape) (lane : ℕ) (next : List Compact → Type 0) (X :
         → (slot (X node) lane).number < b.number
         → r ≡ lock_record front (record { batch = b; part = part K.shards s 0 txs; cause = t }) → IsWanted K lane next X node front r
 
--- behind a front of the node's journal, which the journal at entry begins and behind which nothing of the lane came, its disk has no room for what the
--- wanted record needs there, whose stamp is not past the last one
+-- behind a front of the node's journal, which the journal at entry begins and behind which nothing of the lane came, its disk has no room for what
+-- the wanted record needs there, whose stamp is not past the last one
 pub record HasNoRoomFor (K : Shape) (lane : ℕ) (next : List Compact → Type 0) (E X : ℕ → List Record) (may_hold : ℕ → ℕ → Type 0)
     (node used need capacity : ℕ) : Type 0 where
   pub front : List Record

@@ -4,7 +4,7 @@ use Rattle.std.specs.Prelude.{sum_by}
 use Rattle.std.proofs.lemmas.List.{take_more, reverse-append}
 use Rattle.std.proofs.lemmas.List.Elements.{All-cons, All-nil}
 use Rattle.std.proofs.lemmas.List.Sums.{sum_by-append, sum_by-cons}
-use Rattle.cbdc_model.specs.Records.{Header, Record, Genesis, Start}
+use Rattle.cbdc_model.specs.Records.{Header, Record, Genesis, Start, Carry, CarryStart}
 use Rattle.cbdc_model.specs.Grammar.{IsInGrammar}
 use Rattle.cbdc_model.specs.After.{After, IsJournal}
 use Rattle.cbdc_model.specs.Room.{size_of}
@@ -29,7 +29,9 @@ first_journal h r later may = begins r may.0 (grammar_of h (r ∷ later) may 0 r
   where
     begins : (r : Record) → exact.IsFirstRecord r → IsInGrammar h r → IsJournal h (r ∷ [])
     begins (Genesis header hs) first grammar = (tt, (grammar, refl))
+    begins (Carry stamp header source hs numbers) first grammar = (tt, (grammar, refl))
     begins (Start header) first grammar = (tt, (grammar, refl))
+    begins (CarryStart stamp header source numbers) first grammar = (tt, (grammar, refl))
     begins other first grammar = absurd first
 
 -- one record more, newest first

@@ -8,9 +8,9 @@ use Rattle.outside.specs.Images.{Leaves}
 use Rattle.outside.specs.declared.disk.Disk.{Ghosts}
 use Rattle.record_log.specs.Held.{HoldsRecords, OpensToEither}
 
--- its header, its journal, newest first, a record that a failed call may have left on its disk or not, how often its disk has failed, how often it had
--- when the node was opened, and behind an append that has failed since, the place of the journal's closing gate, how many bytes the disk may hold, and
--- the disk
+-- its header, its journal, newest first, a record that a failed call may have left on its disk or not, how often its disk has failed, how often it
+-- had when the node was opened, and behind an append that has failed since, the place of the journal's closing gate, how many bytes the disk may
+-- hold, and the disk
 pub record NodeOf (D : Type 0) : Type 0 where
   pub header : Header
   pub journal : List Record

@@ -44,8 +44,8 @@ pub record IsOpened {C D : Type 0} {G : Ghosts D} (header_of : C → Header) (St
   pub now : n.opened ≡ G.count (disk_of n.log.journal)
   pub room : used_of (journal_of n) + kept_room n.log.header.shape (journal_of n) ≤ G.limit (disk_of n.log.journal)
 
--- what is seen of a node: its disk's count has not fallen since it was opened, and has risen if an append has failed since; exactly then a record is in
--- flight, and it had room; what its journal takes, with what is kept for its unfinished batches, lies within the capacity
+-- what is seen of a node: its disk's count has not fallen since it was opened, and has risen if an append has failed since; exactly then a record is
+-- in flight, and it had room; what its journal takes, with what is kept for its unfinished batches, lies within the capacity
 pub record IsSoundNode {D : Type 0} (device : Ghosts D) (n : NodeOf D) : Type 0 where
   pub since_opened : n.opened ≤ n.faults
   pub since_broken : IsBrokenSince n.opened n.faults n.broken

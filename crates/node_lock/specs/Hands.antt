@@ -39,8 +39,8 @@ fresh first l = hand l first.seen first.faults [] None
 abbrev pub sees : Sight → Hand → Hand
 sees s h = hand h.lane s.seen s.faults h.made h.left
 
--- what a hand finds at a node: the journal that it had seen, and records of other lanes behind it; no fewer faults; and what it left in flight is so still,
--- with nothing behind it
+-- what a hand finds at a node: the journal that it had seen, and records of other lanes behind it; no fewer faults; and what it left in flight is so
+-- still, with nothing behind it
 pub record HandFinds (h : Hand) (s : Sight) : Type 0 where
   pub others : List Record
   pub list : s.seen ≡ others ++ h.seen
@@ -74,8 +74,8 @@ pub record Looked (first : Sight) (h : Hand) (s : Sight) (g : Hand) : Type 0 whe
   pub found : Same first s
   pub now : g ≡ sees s h
 
--- What a hand knows of a journal that is `log` behind the list `start`: what it has seen is a beginning of that; of the records of its lane in the log it made
--- each, once and in this order, and has seen them; and what it left in flight is so still, with nothing behind it
+-- What a hand knows of a journal that is `log` behind the list `start`: what it has seen is a beginning of that; of the records of its lane in the
+-- log it made each, once and in this order, and has seen them; and what it left in flight is so still, with nothing behind it
 pub record HandOk (start : List Record) (log : List Record) (flight : Option Record) (faults : ℕ) (h : Hand) : Type 0 where
   pub front : List Record
   pub rest : List Record

@@ -2,7 +2,7 @@
 use Rattle.std.proofs.Common.{◌≡◌, ◌↔◌, ℕ, zero, suc, ◌<◌, ◌+◌, ◌-◌, ◌*◌, ◌/◌, ◌%◌, Bool, true, false, ◌&&◌, not, List, [], ◌∷◌, ◌++◌, if◌then◌else◌}
 use Rattle.std.proofs.Common.{refl, sym, ap, subst, arith, slice_index, mul-lt-mul_of_pos_right, div-lt_iff_lt-mul, mod-lt, lit<}
 use Rattle.std.proofs.lemmas.Grind.{common_steps}
-use Rattle.cbdc_model.specs.Records.{Digest, same_digest, Shape, Answered, Record, lock_of, Genesis, Lock, Finish}
+use Rattle.cbdc_model.specs.Records.{Digest, same_digest, Shape, Answered, Record, lock_of, Genesis, Lock, Finish, Carry}
 use Rattle.cbdc_model.specs.Status.{Status, status, has, made_outputs, returned_inputs, finished_status, Unspent, Locked, Absent}
 use Rattle.cbdc_model.specs.Ranges.{shard_of, shard_node, first_byte}
 use Rattle.cbdc_model.specs.World.{IsUnspent}
@@ -48,6 +48,8 @@ finished_in es ds x before rest h g = grind (arith, common_steps, has_append (en
 pub unspent_named : (past : List Record) (x : Digest) → status past x ≡ Unspent → has (named_hashes past) x ≡ true
 unspent_named [] x h = cc
 unspent_named (Genesis header hs ∷ past) x h = grind (arith, common_steps, has_append hs (named_hashes past) x, unspent_named past x)
+unspent_named (Carry stamp header source hs numbers ∷ past) x h =
+    grind (arith, common_steps, has_append hs (named_hashes past) x, unspent_named past x)
 unspent_named (Lock stamp b es ∷ past) x h = grind (arith, common_steps, unspent_named past x)
 unspent_named (Finish stamp b ds ∷ past) x h = finished_in (lock_of past b) ds x (status past x) (named_hashes past) h (unspent_named past x)
 unspent_named (other ∷ past) x h = unspent_named past x h

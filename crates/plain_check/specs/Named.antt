@@ -1,6 +1,7 @@
 -- The hashes that journals name, as candidates for the unspent ones.
 use Rattle.std.specs.Prelude.{ℕ, zero, suc, Bool, true, false, ◌&&◌, not, List, [], ◌∷◌, ◌++◌, if◌then◌else◌}
 use Rattle.cbdc_model.specs.Records.{Digest, Shape, Answered, Record, lock_of, Genesis, Lock, Finish, Forget, Start, Prepare, Commit, Discard, Done}
+use Rattle.cbdc_model.specs.Records.{Carry, CarryStart}
 use Rattle.cbdc_model.specs.Status.{Status, status, has, Unspent, Locked, Absent}
 use Rattle.cbdc_model.specs.Ranges.{shard_of, shard_node}
 
@@ -13,10 +14,12 @@ entry_hashes (a ∷ es) = a.entry.inputs ++ (a.entry.outputs ++ entry_hashes es)
 abbrev pub named_hashes : List Record → List Digest
 named_hashes [] = []
 named_hashes (Genesis header hs ∷ past) = hs ++ named_hashes past
+named_hashes (Carry stamp header source hs numbers ∷ past) = hs ++ named_hashes past
 named_hashes (Lock stamp b es ∷ past) = named_hashes past
 named_hashes (Finish stamp b ds ∷ past) = entry_hashes (lock_of past b) ++ named_hashes past
 named_hashes (Forget stamp b ∷ past) = named_hashes past
 named_hashes (Start header ∷ past) = named_hashes past
+named_hashes (CarryStart stamp header source numbers ∷ past) = named_hashes past
 named_hashes (Prepare stamp b txs ∷ past) = named_hashes past
 named_hashes (Commit stamp b os ∷ past) = named_hashes past
 named_hashes (Discard stamp b ∷ past) = named_hashes past

@@ -8,7 +8,8 @@ use Rattle.cbdc_model.specs.Due.{used_of}
 use Rattle.rack_ledgers.specs.Asked.{asked_of}
 use Rattle.rack_ledgers.specs.Refused.{IsNodeJournal, IsNoNode}
 
--- a disk that holds the journal of a node of this kind, with the room that it needs, is refused for no reason but that it failed, or that memory ran out
+-- a disk that holds the journal of a node of this kind, with the room that it needs, is refused for no reason but that it failed, or that memory ran
+-- out
 abbrev pub NodeOpensLaw : (Header → Type 0) → Type 0
 NodeOpensLaw Is = (node : ℕ) (ledger : Option Header) (h : Header) (J : List Record) (limit : ℕ) (bytes : List ℕ) (answer : Answer)
     → IsNodeJournal h J bytes → Is h → h ≡ asked_of node ledger h → used_of J + kept_room h.shape J ≤ limit

@@ -3,7 +3,7 @@ use Rattle.std.proofs.Common.{◌≡◌, ◌⊎◌, inl, inr, ⊎_elim, ℕ, ◌
 use Rattle.std.proofs.Common.{append_assoc, length-append}
 use Rattle.std.proofs.lemmas.List.{reverse-append, reverse-reverse, append-nil}
 use Rattle.cbdc_types.specs.Limits.{IsWithinLimits}
-use Rattle.cbdc_model.specs.Records.{Header, Record, Genesis, Start}
+use Rattle.cbdc_model.specs.Records.{Header, Record, Genesis, Start, Carry, CarryStart}
 use Rattle.cbdc_model.specs.Grammar.{IsInGrammar}
 use Rattle.cbdc_model.specs.After.{After, IsFirst, IsJournal}
 use Rattle.record_log.specs.Bodies.{body_of}
@@ -133,8 +133,16 @@ one_journal h k J L r s bytes one other =
 begins_journal : (h : Header) (r : Record) → IsWithinLimits h.shape → IsFirst r → IsInGrammar h r → BeginsJournal r
 begins_journal h (Genesis header hs) limits first is =
     (subst (λ (k : Header). IsWithinLimits k.shape) (sym is.0) limits, subst (λ (k : Header). IsInGrammar k (Genesis header hs)) (sym is.0) is)
+begins_journal h (Carry stamp header source hs numbers) limits first is = (
+  subst (λ (k : Header). IsWithinLimits k.shape) (sym is.0) limits,
+  subst (λ (k : Header). IsInGrammar k (Carry stamp header source hs numbers)) (sym is.0) is,
+)
 begins_journal h (Start header) limits first is =
     (subst (λ (k : Header). IsWithinLimits k.shape) (sym is.0) limits, subst (λ (k : Header). IsInGrammar k (Start header)) (sym is.0) is)
+begins_journal h (CarryStart stamp header source numbers) limits first is = (
+  subst (λ (k : Header). IsWithinLimits k.shape) (sym is.0) limits,
+  subst (λ (k : Header). IsInGrammar k (CarryStart stamp header source numbers)) (sym is.0) is,
+)
 begins_journal h other limits first is = absurd first
 
 first_row : (h : Header) (R : List Record) (rest bytes : List ℕ) → IsWithinLimits h.shape → Begins h R → bytes ≡ rows (bodies_of R) ++ rest

@@ -2,7 +2,7 @@
 use Rattle.std.proofs.Common.{◌≡◌, ℕ, List, [], ◌∷◌, ◌++◌, reverse, refl, sym, ap, ◌∙◌, subst}
 use Rattle.std.proofs.lemmas.List.{map-append, reverse-append, reverse-reverse}
 use Rattle.cbdc_types.specs.Limits.{IsWithinLimits}
-use Rattle.cbdc_model.specs.Records.{Header, Record, Genesis, Start}
+use Rattle.cbdc_model.specs.Records.{Header, Record, Genesis, Start, Carry, CarryStart}
 use Rattle.cbdc_model.specs.Grammar.{IsInGrammar}
 use Rattle.cbdc_model.specs.After.{IsFirst, IsJournal}
 use Rattle.byte_fields.proofs.Fields.{ok_is}
@@ -52,7 +52,9 @@ same_journal h k (q ∷ (p ∷ J)) (r ∷ (o ∷ L)) low low' j l e =
 -- a journal has one header: that of its first record
 pub first_header : (h k : Header) (r : Record) → IsFirst r → IsInGrammar h r → IsInGrammar k r → h ≡ k
 first_header h k (Genesis header hs) first one other = sym one.0 ∙ other.0
+first_header h k (Carry stamp header source hs numbers) first one other = sym one.0 ∙ other.0
 first_header h k (Start header) first one other = sym one.0 ∙ other.0
+first_header h k (CarryStart stamp header source numbers) first one other = sym one.0 ∙ other.0
 first_header h k r first one other = absurd first
 
 one_header : (h k : Header) (J : List Record) → IsJournal h J → IsJournal k J → h ≡ k

@@ -4,7 +4,7 @@ use Rattle.cbdc_types.specs.declared.answer.Answer.{Answer}
 use Rattle.cbdc_types.specs.declared.answer.Answer.TheVariants as answers
 use Rattle.cbdc_types.specs.declared.calls.NodeOpenFault.{NodeOpenFault}
 use Rattle.cbdc_types.specs.declared.calls.NodeOpenFault.TheVariants as faults
-use Rattle.cbdc_model.specs.Records.{Header, Record, Genesis, Start}
+use Rattle.cbdc_model.specs.Records.{Header, Record, Genesis, Start, Carry, CarryStart}
 use Rattle.cbdc_model.specs.Room.{kept_room}
 use Rattle.cbdc_model.specs.Due.{used_of}
 use Rattle.outside.specs.Counts.{Rose}
@@ -70,14 +70,17 @@ module _ (Is : Header → Type 0) (node : ℕ) (ledger : Option Header) (limit :
 -- a first record is of one kind
 pub start_first : (r : Record) → IsStart r → IsFirstRecord r
 start_first (Start h) is = is
+start_first (CarryStart stamp h source numbers) is = is
 start_first other is = absurd is
 
 pub genesis_first : (r : Record) → IsGenesis r → IsFirstRecord r
 genesis_first (Genesis h hs) is = is
+genesis_first (Carry stamp h source hs numbers) is = is
 genesis_first other is = absurd is
 
 one_kind : (r : Record) → IsStart r → IsGenesis r → ⊥
 one_kind (Start h) start is = is
+one_kind (CarryStart stamp h source numbers) start is = is
 one_kind other start is = start
 
 pub not_both_kinds : (bytes : List ℕ) → HasRow IsStart bytes → HasRow IsGenesis bytes → ⊥

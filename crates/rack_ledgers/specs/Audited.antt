@@ -30,8 +30,8 @@ pub record IsAudited {D : Type 0} (device : Ghosts D) (held : ℕ → Option D) 
     pub history : IsToldHistory device held shape (genesis_id mint) rows
     pub is : IsVerdict shape mint handed rows verdict
 
--- each disk that is told of the ledger with this history, the oldest row first, has room for its journal there and for what is kept for the batches that
--- are open in it
+-- each disk that is told of the ledger with this history, the oldest row first, has room for its journal there and for what is kept for the batches
+-- that are open in it
 abbrev pub HistoryHasRoom : {D : Type 0} → Ghosts D → (ℕ → Option D) → Shape → List Row → Type 0
 HistoryHasRoom device held K rows =
     (n : ℕ) → n < K.coordinators + K.shards → OfTold (held n)

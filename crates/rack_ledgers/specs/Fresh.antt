@@ -9,8 +9,8 @@ use Rattle.node_journal.specs.Nodes.{NodeOf, HoldsJournal}
 use Rattle.node_journal.specs.Opening.{IsJournalOf}
 use Rattle.rack_ledgers.specs.Asked.{IsHeaderAsked}
 
--- it is the node of the kind with this number, of the ledger with this header or of any; nothing is in flight, its disk has not failed since, and there
--- is room for what its batches still need
+-- it is the node of the kind with this number, of the ledger with this header or of any; nothing is in flight, its disk has not failed since, and
+-- there is room for what its batches still need
 pub record FitsNode {D : Type 0} (device : Ghosts D) (Is : Header → Type 0) (node : ℕ) (ledger : Option Header) (n : NodeOf D) : Type 0 where
   pub asked : IsHeaderAsked node ledger n.header
   pub kind : Is n.header

@@ -18,8 +18,8 @@ pub record MayClose {D : Type 0} (device : Ghosts D) (can_put : ℕ → ℕ → 
   pub shards : EachFrom (MayReturn (λ x. device.count x.disk) can_put) (length log_nodes) shard_nodes
   pub others : (n : ℕ) → length log_nodes + length shard_nodes ≤ n → can_take n
 
--- all nodes of the ledger with this header were opened from a rack: each stands for what was told of its disk, which had not failed less often by then
--- than before; no other disk was touched, and the ledger may be closed again
+-- all nodes of the ledger with this header were opened from a rack: each stands for what was told of its disk, which had not failed less often by
+-- then than before; no other disk was touched, and the ledger may be closed again
 pub record IsLedgerOpenedFrom {R D : Type 0} (device : Ghosts D) (rack : RackGhosts R D) (old new : R) (h : Header) (logs : List (NodeOf D))
     (shards : List (NodeOf D)) : Type 0 where
   pub nodes : AreOpened device (rack.held old) h logs shards
@@ -28,8 +28,9 @@ pub record IsLedgerOpenedFrom {R D : Type 0} (device : Ghosts D) (rack : RackGho
   pub others_held : (n : ℕ) → length logs + length shards ≤ n → rack.held new n ≡ rack.held old n
   pub may_close : MayClose device (rack.can_put new) (rack.can_take new) logs shards
 
--- all coordinators of the ledger with this header, which has so few nodes that each has a number, were opened from a rack: each stands for what was told of
--- its disk, which had not failed less often by then than before, and may be put back; the disks behind theirs were not touched and may be taken
+-- all coordinators of the ledger with this header, which has so few nodes that each has a number, were opened from a rack: each stands for what was
+-- told of its disk, which had not failed less often by then than before, and may be put back; the disks behind theirs were not touched and may be
+-- taken
 pub record AreLogsOpenedFrom {R D : Type 0} (device : Ghosts D) (rack : RackGhosts R D) (old new : R) (h : Header) (log_nodes : List (NodeOf D)) :
     Type 0 where
   pub first : h.node ≡ 0

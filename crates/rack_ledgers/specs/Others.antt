@@ -3,8 +3,8 @@ use Rattle.std.specs.Prelude.{◌≡◌, ◌≤◌, ◌<◌, ℕ}
 use Rattle.outside.specs.declared.rack.Rack.{Ghosts}
 use Rattle.rack_ledgers.specs.Places.{IsOutsideRange}
 
--- at the places outside a range the rack holds what it held, what might be taken may be taken, and what might be put back may be; and at no place, inside or
--- outside, has the count of faults fallen
+-- at the places outside a range the rack holds what it held, what might be taken may be taken, and what might be put back may be; and at no place,
+-- inside or outside, has the count of faults fallen
 pub record KeepsOthers {R D : Type 0} (rack : Ghosts R D) (first behind : ℕ) (old new : R) : Type 0 where
   pub held : (n : ℕ) → IsOutsideRange first behind n → rack.held new n ≡ rack.held old n
   pub takes : (n : ℕ) → IsOutsideRange first behind n → rack.can_take old n → rack.can_take new n

@@ -1,4 +1,5 @@
--- A command's own test of the ledger at entry: where it refuses the ledger the disks are back unchanged; what it let pass is the ledger that a rack showed.
+-- A command's own test of the ledger at entry: where it refuses the ledger the disks are back unchanged; what it let pass is the ledger that a rack
+-- showed.
 use Rattle.std.proofs.Common.{◌≡◌, ◌⊎◌, inl, inr, ℕ, ◌+◌, ◌≤◌, List, length, Option, sym, ◌∙◌, subst}
 use Rattle.outside.specs.declared.disk.Disk.{Ghosts}
 use Rattle.cbdc_types.specs.declared.answer.Answer.{Answer}

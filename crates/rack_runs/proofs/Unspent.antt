@@ -5,7 +5,7 @@ use Rattle.std.specs.Prelude.{All}
 use Rattle.std.proofs.lemmas.List.{length-append}
 use Rattle.std.proofs.lemmas.List.Elements.{All-nil, All-head, All-tail}
 use Rattle.cbdc_model.specs.Records.{Digest, same_digest, Shape, Header, Batch, Answered, Record, record_of, kind_of, is_of, is_held, entries_in}
-use Rattle.cbdc_model.specs.Records.{lock_of, Genesis, Lock, Finish}
+use Rattle.cbdc_model.specs.Records.{lock_of, Genesis, Lock, Finish, Carry}
 use Rattle.cbdc_model.specs.Ranges.{shard_of, shard_node}
 use Rattle.cbdc_model.specs.Status.{Status, status, has, held_inputs, taken_inputs, made_outputs, returned_inputs, finished_status, Unspent, Locked}
 use Rattle.cbdc_model.specs.Status.{Absent}
@@ -120,6 +120,7 @@ module _ (h : Header) where
         | true ↦ λ e _. in_list hs x g.5 e
         | false ↦ λ _ v. old.0 x v
       ] refl u
+      here (Carry stamp header source hs numbers) g x u = absurd g
       here (Lock stamp b es) g x u = elim (has (held_inputs es) x) as (λ t. (if t then Locked b else status past x) ≡ Unspent → Here x) [
         | true ↦ λ v. absurd (let z : Locked b ≡ Unspent = v in cc)
         | false ↦ λ v. old.0 x v

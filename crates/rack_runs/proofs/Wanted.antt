@@ -10,7 +10,7 @@ use Rattle.outside.specs.declared.disk.Disk.{Ghosts}
 use Rattle.cbdc_types.specs.Limits.{IsWithinLimits}
 use Rattle.cbdc_types.specs.declared.calls.LockCall.{LockCall}
 use Rattle.cbdc_model.specs.Records.{Digest, Shape, Header, Batch, Compact, Record, journal, record_of, last_stamp, stamp_of, Genesis, Start, Prepare}
-use Rattle.cbdc_model.specs.Records.{Commit, Discard, Done}
+use Rattle.cbdc_model.specs.Records.{Commit, Discard, Done, Carry, CarryStart}
 use Rattle.cbdc_model.specs.Slots.{Phase, slot, Idle, InPrepare, InCommit, InDiscard}
 use Rattle.cbdc_model.specs.Ranges.{home_of, shard_node, part, node_count}
 use Rattle.cbdc_model.specs.Replies.{answered}
@@ -85,7 +85,9 @@ number_next : (h : Header) (past : List Record) (r : Record) → (past ≡ [] �
     → ((lane : ℕ) → (slot past lane).number ≤ last_stamp past)
     → (lane : ℕ) → (slot (r ∷ past) lane).number ≤ last_stamp (r ∷ past)
 number_next h past (Genesis header hs) some low a le lane = absurd (some a.1)
+number_next h past (Carry stamp header source hs numbers) some low a le lane = absurd (some a.1)
 number_next h past (Start header) some low a le lane = absurd (some a.1)
+number_next h past (CarryStart stamp header source numbers) some low a le lane = absurd (some a.1)
 number_next h past (Prepare stamp b txs) some low a le lane =
     number_up lane stamp b InPrepare past (omega (arith, a.1.0, a.1.3, le b.lane)) (omega (arith, a.1.0, le lane))
 number_next h past (Commit stamp b os) some low a le lane =
@@ -102,7 +104,9 @@ number_low h (r ∷ []) low j lane = first r j.0
   where
     first : (r : Record) → IsFirst r → (slot (r ∷ []) lane).number ≤ last_stamp (r ∷ [])
     first (Genesis header hs) is = omega arith
+    first (Carry stamp header source hs numbers) is = omega arith
     first (Start header) is = omega arith
+    first (CarryStart stamp header source numbers) is = omega arith
     first other is = absurd is
 number_low h (r ∷ (q ∷ past)) low j lane = number_next h (q ∷ past) r (λ none. absurd (let z : q ∷ past ≡ [] = none in cc)) low j.0
     (λ l. number_low h (q ∷ past) low j.1 l) lane

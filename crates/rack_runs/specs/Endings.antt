@@ -14,8 +14,8 @@ use Rattle.ledger_runs.specs.Least.{IsLeastOpen}
 use Rattle.file_runs.specs.Endings.{EndsFiles, AreRunOrCut}
 use Rattle.rack_runs.specs.Kinds.{answer_to}
 
--- from journals E at entry to X: the fault came as open batches were brought to their end, nothing was prepared newly, and it is that of the least lane
--- that met one; or these are at their end, nothing was prepared newly meanwhile, and the fault ended the files behind that
+-- from journals E at entry to X: the fault came as open batches were brought to their end, nothing was prepared newly, and it is that of the least
+-- lane that met one; or these are at their end, nothing was prepared newly meanwhile, and the fault ended the files behind that
 abbrev pub EndsRun : VerdictsOf → List (List FullTx) → Shape → (ℕ → List Record) → (ℕ → List Record) → (ℕ → Type 0) → (ℕ → ℕ → Type 0) → LaneFault
     → Type 0
 EndsRun verdicts files K E X failed may_hold e =

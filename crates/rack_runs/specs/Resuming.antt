@@ -43,8 +43,8 @@ pub record HasResumed {D : Type 0} (device : Ghosts D) (before now : LedgerOf D)
   -- it is that of the least lane that met one: all lesser lanes are idle; only where memory ran out before the first was taken up is nothing done
   pub least : IfErr came (IsLeastOpen before.header.shape (ledger_journals before) (ledger_journals now)
       (HaveFailed (ledger_opened now) (ledger_faults now)) (MayHoldBytes (ledger_capacity now)))
-  -- behind the fault of a lane each lane was taken up: it is between batches, or its batch lacks a Lock, or the disk of a node that it asks has failed;
-  -- or memory ran out before its Locks, and it is prepared still
+  -- behind the fault of a lane each lane was taken up: it is between batches, or its batch lacks a Lock, or the disk of a node that it asks has
+  -- failed; or memory ran out before its Locks, and it is prepared still
   pub rests : IfErr came (λ e. IsUnbegunForMemory (ledger_journals before) (ledger_journals now) e
       ⊎ AllRestOrWait before.header.shape (ledger_journals before) (ledger_journals now) (HaveFailed (ledger_opened now) (ledger_faults now))
       (λ _. Unit {0}))

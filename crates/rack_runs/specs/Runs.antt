@@ -149,8 +149,8 @@ pub record IsLaneFault {D : Type 0} (device : Ghosts D) (before after : Disks D)
   -- the fault is that of the least lane that met one; or all came through, and memory ran out behind that
   pub least : IsLeastAnswer (turns.through ledger.shape (entry_journals ledger) exit)
       (turns.ends ledger.shape (entry_journals ledger) exit (RoseAt before after) (DiskMayHold device before)) answer
-  -- each lane is between batches, or its batch lacks a Lock, or the disk of a node that it asks has failed; or its batch was prepared and is so still,
-  -- and the answer is that memory ran out, or a lesser lane has its batch open still; or that is the answer and nothing was written
+  -- each lane is between batches, or its batch lacks a Lock, or the disk of a node that it asks has failed; or its batch was prepared and is so
+  -- still, and the answer is that memory ran out, or a lesser lane has its batch open still; or that is the answer and nothing was written
   pub rests : AllRestBehind ledger.shape (entry_journals ledger) exit (RoseAt before after) (answer ≡ answers.Memory)
   -- each disk of the ledger had room for its journal and for what was kept for the batches open there; in each place there is as much room as there
   -- was, and so for its journal at exit

@@ -126,8 +126,8 @@ pub record WorkEndsBy {Done : Type 0} (d : Deed Done) (K : Shape) (M X : ℕ →
   pub holds : (n c : ℕ) → n < node_count K → MayHoldBytes capacity_at n c → may_hold n c
   pub ends : d.ends K M X (HaveFailed opened_at faults_at) (MayHoldBytes capacity_at) e
 
--- the fault came as open batches were brought to their end, nothing was prepared newly, and it is that of the least lane that met one; or these are at
--- their end, nothing was prepared newly meanwhile, and the fault ended the work behind that
+-- the fault came as open batches were brought to their end, nothing was prepared newly, and it is that of the least lane that met one; or these are
+-- at their end, nothing was prepared newly meanwhile, and the fault ended the work behind that
 abbrev pub EndsWork : {Done : Type 0} → Deed Done → Shape → (ℕ → List Record) → (ℕ → List Record) → (ℕ → Type 0) → (ℕ → ℕ → Type 0) → LaneFault
     → Type 0
 EndsWork d K E X failed may_hold e =
@@ -180,8 +180,8 @@ pub record HasRunWork {D Done : Type 0} (device : Ghosts D) (d : Deed Done)
   pub badly : IfErr came (AllBadly d before.header.shape (ledger_journals before) (ledger_journals now)
       (HaveFailed (ledger_opened now) (ledger_faults now)) (MayHoldBytes (ledger_capacity now)))
 
--- what a node says of itself: its count of faults and its capacity are its disk's, which has room for its journal, for what is kept for its open batches
--- and for what is in flight; and a record is in flight only where the disk failed
+-- what a node says of itself: its count of faults and its capacity are its disk's, which has room for its journal, for what is kept for its open
+-- batches and for what is in flight; and a record is in flight only where the disk failed
 pub record IsSeen {D : Type 0} (device : Ghosts D) (n : NodeOf D) : Type 0 where
   pub faults : n.faults ≡ device.count n.disk
   pub capacity : n.capacity ≡ device.limit n.disk

@@ -87,5 +87,9 @@ pub fn is_in_grammar(h: &Header, r: &Record) -> bool
         Record::Done { stamp, batch } => {
             is_later(*stamp) && is_batch_of(&h.shape, batch) && is_coordinator(h)
         }
+        Record::Upgrade { .. } => false,
+        Record::Carry { .. } => false,
+        Record::CarryStart { .. } => false,
+        Record::Seal { .. } => false,
     }
 }

@@ -6,7 +6,7 @@ use Rattle.std.proofs.lemmas.List.{append-nil}
 use Rattle.std.proofs.lemmas.List.Elements.{recursion_from_All, All-head, All-tail, All-weaker}
 use Rattle.cbdc_types.specs.Limits.{ShapeOf, IsWithinLimits}
 use Rattle.cbdc_model.specs.Records.{Digest, Header, Batch, Compact, Reply, Outcome, Answered, Record, Held, Missing, Taken, Won, Lacks, Blocked}
-use Rattle.cbdc_model.specs.Records.{Genesis, Lock, Finish, Forget, Start, Prepare, Commit, Discard, Done}
+use Rattle.cbdc_model.specs.Records.{Genesis, Lock, Finish, Forget, Start, Prepare, Commit, Discard, Done, Carry, CarryStart}
 use Rattle.cbdc_model.specs.Grammar.{IsEarly, IsLater, IsHash, IsHashList, IsBatchOf, RisesFrom, IsReply, IsOutcome, IsEntry, IsCompact, IsInGrammar}
 use Rattle.byte_fields.specs.declared.fault.Fault.{Fault}
 use Rattle.byte_fields.specs.Faults.{IsBytes}
@@ -120,7 +120,9 @@ no_fault bytes r f e g = absurd (cc)
 
 pub is_read_first : (bytes : List ℕ) (r : Record) → IsFirstBody bytes r → body_at bytes ≡ Ok (r, [])
 is_read_first bytes (Genesis header hs) is = is_read header bytes (Genesis header hs) is.1.0 (is.0, is.1.1)
+is_read_first bytes (Carry stamp header source hs numbers) is = is_read header bytes (Carry stamp header source hs numbers) is.1.0 (is.0, is.1.1)
 is_read_first bytes (Start header) is = is_read header bytes (Start header) is.1.0 (is.0, is.1.1)
+is_read_first bytes (CarryStart stamp header source numbers) is = is_read header bytes (CarryStart stamp header source numbers) is.1.0 (is.0, is.1.1)
 is_read_first bytes other is = absurd is.1
 
 -- ---- laws

@@ -12,7 +12,7 @@ use Rattle.cbdc_types.specs.declared.record.Header.{Header}
 use Rattle.cbdc_types.specs.declared.record.Record.{Record}
 use Rattle.cbdc_types.specs.declared.record.Record.TheVariants.{Genesis, Lock, Finish, Forget, Start, Prepare, Commit, Discard, Done}
 use Rattle.base_types.specs.declared.faults.InputKind.TheVariants.{Form}
-use Rattle.cbdc_model.specs.Records.{kind_of}
+use Rattle.cbdc_model.specs.Records.{kind_of, Carry}
 use Rattle.byte_fields.specs.declared.fault.Fault.{Fault}
 use Rattle.byte_fields.specs.Faults.{fault, IsBytes}
 use Rattle.byte_spelling.specs.Spelling.{number, counted, FitsNumber, FitsHash, FitsList}
@@ -426,6 +426,7 @@ takes_1 whole t bytes r rest fits e =
 
 kind_small : (r : Record) → FitsByte (kind_of r)
 kind_small (Genesis h hs) = omega arith
+kind_small (Carry stamp h source hs numbers) = omega arith
 kind_small other = omega arith
 
 body_again : (whole : List ℕ) (r : Record) (rest : List ℕ) → FitsRecord r → from_1 whole (kind_of r) (record_rest r ++ rest) ≡ Ok (r, rest)
@@ -444,6 +445,7 @@ body_again whole (Done stamp b) rest fits = done_read.again (Done stamp b) rest 
 
 body_same : (r : Record) → kind_of r ∷ record_rest r ≡ body_of r
 body_same (Genesis h hs) = refl
+body_same (Carry stamp h source hs numbers) = refl
 body_same other = refl
 
 pub body_read : IsRead body_at body_of FitsRecord

@@ -198,8 +198,8 @@ pub record WasCaused (K : Shape) (logs shards : ℕ → Sight) (e : LaneFault) :
   pub shards_on : (n : ℕ) → HasGoneOn (shards_then n) (shards n)
   pub cause : IsCausedFault K logs_then shards_then e
 
--- what calls keep of the ports of open lanes: they go to the same nodes, and where no other lane's records come between them, the coordinator's lanes that
--- are not listed are as before
+-- what calls keep of the ports of open lanes: they go to the same nodes, and where no other lane's records come between them, the coordinator's lanes
+-- that are not listed are as before
 pub record KeepsListedPorts {S L G : Type 0} (log : LogGhosts L) (set : SetGhosts S G) (os : List OpenLane) (old new : Ports S L) : Type 0 where
   pub to_log : KeepsLog log.at log.header log.count log.sights log.faults log.holds old.log new.log
   pub to_shards : KeepsShards set.count set.sights set.faults set.holds set.serves old.shards new.shards

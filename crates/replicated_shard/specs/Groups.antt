@@ -41,8 +41,8 @@ GroupNode {D} device = NodeOf (Mirror D device)
 abbrev pub EachHolds : {D : Type 0} (device : Ghosts D) → GroupNode device → Type 0
 EachHolds {D} device n = (k : ℕ) (d : D) → slice_get n.disk.disks.items k ≡ Some d → (c : List ℕ) → device.images d c → OpensToSeen n c
 
--- a call at which a member's disk failed: the record is in flight, the node is broken, its count rose, and one of its disks has failed since the mirror was
--- made
+-- a call at which a member's disk failed: the record is in flight, the node is broken, its count rose, and one of its disks has failed since the
+-- mirror was made
 pub record MemberFailed {D : Type 0} (device : Ghosts D) (old new : GroupNode device) : Type 0 where
   pub record_in_flight : Record
   pub flies : new.flight ≡ Some record_in_flight
@@ -50,8 +50,8 @@ pub record MemberFailed {D : Type 0} (device : Ghosts D) (old new : GroupNode de
   pub rose : HasRisen old.faults new.faults
   pub member : has_failed (map device.count new.disk.disks.items) ≡ true
 
--- a call at a shard that is a group: it is answered as the shard alone would answer it, by the room of the primary's disk; for however many backups it
--- is a list of the group's steps; each member's disk holds the journal behind it; and a fault of the disk is a member's
+-- a call at a shard that is a group: it is answered as the shard alone would answer it, by the room of the primary's disk; for however many backups
+-- it is a list of the group's steps; each member's disk holds the journal behind it; and a fault of the disk is a member's
 pub record AnswersAsGroup {D A : Type 0} (device : Ghosts D) (memory : Bool) (due : Due A) (old new : GroupNode device) (result : Result A NodeFault)
     : Type 0 where
   pub answered : HasAnswered (mirrored device) memory due old new result

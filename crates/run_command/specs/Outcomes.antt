@@ -46,8 +46,8 @@ pub record IsPrintedRun {D : Type 0} (device : Ghosts D) (now : ℕ → Option D
   pub text : Text
   pub lines : IsRunText K verdicts (sound_by verdicts) handed E run.exit text
   pub prints : printed text
-  -- what they tell of each sound submission is what became of it: it has its one place in one new Prepare, and nothing else has one, and it is confirmed
-  -- exactly where every shard held it
+  -- what they tell of each sound submission is what became of it: it has its one place in one new Prepare, and nothing else has one, and it is
+  -- confirmed exactly where every shard held it
   pub settled : AreSettled K verdicts handed E run.exit
   -- it is confirmed where its inputs were unspent when its file's wave began, and no other sound submission of the file spends one
   pub free : AreFreeConfirmed K verdicts handed E run.exit

@@ -9,8 +9,8 @@ use Rattle.rack_ledgers.specs.Racked.{Disks}
 use Rattle.rack_laws.specs.Shown.{OfShown}
 use Rattle.rack_runs.specs.Runs.{IsRecovery, TookLedger}
 
--- a recovery of a kept ledger, which was printed: the lines are those of this recovery, from the journals at entry to those at its exit, which the disks
--- hold now
+-- a recovery of a kept ledger, which was printed: the lines are those of this recovery, from the journals at entry to those at its exit, which the
+-- disks hold now
 pub record IsPrintedRecovery {D : Type 0} (device : Ghosts D) (now : ℕ → Option D) (printed : Text → Type 0)
     (K : Shape) (mint : List Output) (submissions : List FullTx) (E : ℕ → List Record) : Type 0 where
   pub recovered : IsRecovery device now K mint submissions E

@@ -8,7 +8,7 @@ use Rattle.std.proofs.lemmas.Map.Steps.{length-le_from_distinct_below}
 use Rattle.std.proofs.Math.Nat.{mul-le-mul}
 use Rattle.cbdc_types.specs.Limits.{IsWithinLimits}
 use Rattle.cbdc_model.specs.Records.{Shape, Batch, Compact, Record, Row, journal, record_of, stamp_of, stamp_in, last_stamp, kind_of, is_of, Lock}
-use Rattle.cbdc_model.specs.Records.{Finish, Forget, Prepare, Commit, Discard, Done}
+use Rattle.cbdc_model.specs.Records.{Finish, Forget, Prepare, Commit, Discard, Done, Upgrade, Seal}
 use Rattle.cbdc_model.specs.Causes.{IsCaused}
 use Rattle.cbdc_model.specs.Clean.{IsProperCompact}
 use Rattle.cbdc_model.specs.Grammar.{IsInGrammar}
@@ -23,6 +23,7 @@ use Rattle.ledger_laws.proofs.Ledger.{steady}
 use Rattle.run_laws.specs.Laws.{late_records, FewLateLaw, NoneRefusedLaw}
 use Rattle.run_laws.proofs.Codes.{code_of, IsPlaced, at_shard, at_home, SamePlace, code_tells, code_below}
 use Rattle.run_laws.proofs.WorldStamps.{caused_le, found_le, lane_in, is_late, late_above, late_codes, stamps_le}
+use Rattle.cbdc_model.specs.After.{IsFirst}
 
 -- a record of a batch, with its place in the lane
 pub record Placed (K : Shape) (node : ℕ) (r : Record) : Type 0 where
@@ -50,6 +51,8 @@ placed K minting n J (Discard stamp b) next g late =
     record { batch = b; is_of = same_batch_self b; lane = refl; below = g.1.0; place = at_home next.2 (omega arith) (omega arith) }
 placed K minting n J (Done stamp b) next g late =
     record { batch = b; is_of = same_batch_self b; lane = refl; below = g.1.0; place = at_home next.2 (omega arith) (omega arith) }
+placed K minting n J (Upgrade stamp batch) next g late = absurd g
+placed K minting n J (Seal stamp to shards) next g late = absurd g
 placed K minting n J other next g late = absurd next
 
 some_late : (o : ℕ → List Record) (kind n : ℕ) (b : Batch) → 2 ^ 62 < stamp_in (record_of kind (o n) b) → is_some (record_of kind (o n) b) ≡ true
@@ -196,10 +199,10 @@ module _ (K : Shape) (minting : Minted) (P : Compact → Type 0) (shards : 0 < K
   pub low : (later : List Row) → Steady K minting P later → (n : ℕ) → last_stamp (whole later n) ≤ 2 ^ 62 + late_records K
   low later kept n = let s = stamps_le K minting P shards later kept n in let f = few later kept in omega arith
 
-  pub caused_low : (later : List Row) → Steady K minting P later → (n : ℕ) (r : Record) → IsCaused K (whole later) n r
+  pub caused_low : (later : List Row) → Steady K minting P later → (n : ℕ) (r : Record) → (IsFirst r → ⊥) → IsCaused K (whole later) n r
       → stamp_of r ≤ suc (2 ^ 62 + late_records K)
-  caused_low later kept n r caused =
-      caused_le K (whole later) n (2 ^ 62 + late_records K) r (λ m. low later kept m)
+  caused_low later kept n r new caused =
+      caused_le K (whole later) n (2 ^ 62 + late_records K) r new (λ m. low later kept m)
       (λ kind m b. found_le K minting P shards later kept (2 ^ 62 + late_records K) (λ m. low later kept m) kind m b) caused
 
 pub few_late_law : FewLateLaw
@@ -216,11 +219,11 @@ few_enough K limits =
     omega arith
 
 pub none_refused_law : NoneRefusedLaw
-none_refused_law K mint txs J n r limits k caused =
+none_refused_law K mint txs J n r limits k later caused =
     let steady_rows = steady K (minted mint) (IsProperCompact txs) k.later k.kept in
     let c : IsCaused K (λ m. journal m (k.later ++ first_rows K (minted mint))) n r =
     subst (λ X. IsCaused K X n r) (λ i m. sym (k.history.journals_are m) i) caused in
-    let l : stamp_of r ≤ suc (2 ^ 62 + late_records K) = caused_low K (minted mint) (IsProperCompact txs) limits.some_shard k.later steady_rows n r c
-    in
+    let l : stamp_of r ≤ suc (2 ^ 62 + late_records K) =
+    caused_low K (minted mint) (IsProperCompact txs) limits.some_shard k.later steady_rows n r later c in
     let f : late_records K ≤ 33536 = few_enough K limits in
     omega arith

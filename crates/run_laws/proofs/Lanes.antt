@@ -7,6 +7,7 @@ use Rattle.ledger_laws.proofs.ByKind.{lanes_apart, found_apart}
 use Rattle.ledger_laws.proofs.Last.{slot_by, slot_next, slot_stays}
 use Rattle.run_laws.proofs.Scales.{Scale, Fair}
 use Rattle.run_laws.proofs.Numbers.{same_number, other_number}
+use Rattle.cbdc_model.specs.After.{IsFirst}
 
 -- a journal that says the same of a lane
 pub record IsSameLane (J N : List Record) (lane : ℕ) : Type 0 where
@@ -15,14 +16,15 @@ pub record IsSameLane (J N : List Record) (lane : ℕ) : Type 0 where
   pub txs : (n : ℕ) → txs_of N (record { lane = lane; number = n }) ≡ txs_of J (record { lane = lane; number = n })
 
 -- the others stay
-pub others_stay : (J : List Record) (r : Record) (lane other : ℕ) → is_in_lane lane r ≡ true → (lane ≡ other → ⊥) → IsSameLane J (r ∷ J) other
-others_stay J r lane other of apart =
-    let h : is_in_lane other r ≡ false = lanes_apart lane other r of (other_number lane other apart) in
+pub others_stay : (J : List Record) (r : Record) (lane other : ℕ) → (IsFirst r → ⊥) → is_in_lane lane r ≡ true → (lane ≡ other → ⊥)
+    → IsSameLane J (r ∷ J) other
+others_stay J r lane other later of apart =
+    let h : is_in_lane other r ≡ false = lanes_apart lane other r later of (other_number lane other apart) in
     record { slots = slot_stays r J other h; locks = λ n. ap entries_in (found_apart 2 r J _ h); txs = λ n. ap txs_in (found_apart 6 r J _ h) }
 
 -- the slot that a record leaves to its lane
-pub new_slot : (J : List Record) (r : Record) (lane : ℕ) → is_in_lane lane r ≡ true → slot (r ∷ J) lane ≡ slot_by (Some r)
-new_slot J r lane of = slot_next r J lane ∙ ap (λ c. if c then slot_by (Some r) else slot J lane) of
+pub new_slot : (J : List Record) (r : Record) (lane : ℕ) → is_in_lane lane r ≡ true → slot (r ∷ J) lane ≡ slot_by lane (Some r)
+new_slot J r lane of = slot_next r J lane ∙ ap (λ c. if c then slot_by lane (Some r) else slot J lane) of
 
 -- its own Lock and Prepare are found first
 pub lock_found : (J : List Record) (stamp : ℕ) (b : Batch) (es : List Answered) → lock_of (Lock stamp b es ∷ J) b ≡ es

@@ -1,7 +1,7 @@
 -- A lane's last record at a node where its slot is not idle: which nodes have it, its stamp's bound, and the records that stand.
 use Rattle.std.proofs.Common.{◌≡◌, ℕ, ◌^◌, ◌<◌, ◌≤◌, true, List, Some, is_some, sym, ap, ◌∙◌, arith}
 use Rattle.cbdc_model.specs.Records.{Header, Batch, Record, record_of, stamp_of, txs_in, txs_of, outcomes_in, outcomes_of, Genesis, Lock, Finish}
-use Rattle.cbdc_model.specs.Records.{Start, Prepare, Commit, Discard}
+use Rattle.cbdc_model.specs.Records.{Start, Prepare, Commit, Discard, Upgrade, Carry, CarryStart, Seal}
 use Rattle.cbdc_model.specs.Slots.{Phase, Idle, InLock, InFinish, InPrepare, InCommit, InDiscard}
 use Rattle.cbdc_model.specs.Grammar.{IsInGrammar}
 use Rattle.ledger_laws.proofs.ByKind.{found_prepare, found_commit, found_discard}
@@ -17,15 +17,19 @@ IsShardPhase InPrepare = ⊥
 IsShardPhase InCommit = ⊥
 IsShardPhase InDiscard = ⊥
 
-pub of_shard : (h : Header) (r : Record) → IsInGrammar h r → IsShardPhase (slot_by (Some r)).phase → h.shape.coordinators ≤ h.node
-of_shard h (Lock stamp b es) g p = g.2.0
-of_shard h (Finish stamp b ds) g p = g.2.0
-of_shard h other g p = absurd p
+pub of_shard : (h : Header) (lane : ℕ) (r : Record) → IsInGrammar h r → IsShardPhase (slot_by lane (Some r)).phase → h.shape.coordinators ≤ h.node
+of_shard h lane (Lock stamp b es) g p = g.2.0
+of_shard h lane (Finish stamp b ds) g p = g.2.0
+of_shard h lane other g p = absurd p
 
 -- stamps are within their bound
 pub stamp_fits : (h : Header) (r : Record) → IsInGrammar h r → stamp_of r < 2 ^ 63
 stamp_fits h (Genesis header hs) g = omega arith
 stamp_fits h (Start header) g = omega arith
+stamp_fits h (Upgrade stamp batch) g = absurd g
+stamp_fits h (Carry stamp header source hs numbers) g = absurd g
+stamp_fits h (CarryStart stamp header source numbers) g = absurd g
+stamp_fits h (Seal stamp to shards) g = absurd g
 stamp_fits h other g = omega (arith, g.0)
 
 module _ (J : List Record) (b : Batch) where

@@ -3,13 +3,13 @@ use Rattle.std.proofs.Common.{◌≡◌, ℕ, suc, ◌+◌, ◌-◌, ◌/◌, �
 use Rattle.std.proofs.Common.{◌∙◌, subst, arith}
 use Rattle.std.proofs.Math.Nat.{div-lt_iff_lt-mul}
 use Rattle.cbdc_model.specs.Records.{Shape, Batch, Compact, Record, Row, journal, record_of, kind_of, is_of, txs_in, txs_of, lock_of, Genesis, Lock}
-use Rattle.cbdc_model.specs.Records.{Finish, Forget, Start, Prepare, Commit, Discard, Done}
+use Rattle.cbdc_model.specs.Records.{Finish, Forget, Start, Prepare, Commit, Discard, Done, Upgrade, Carry, CarryStart, Seal}
 use Rattle.cbdc_model.specs.Slots.{slot}
-use Rattle.cbdc_model.specs.Grammar.{IsShard}
+use Rattle.cbdc_model.specs.Grammar.{IsShard, IsInGrammar}
 use Rattle.cbdc_model.specs.Ranges.{home_of, shard_node, Concerned}
 use Rattle.cbdc_model.specs.Coins.{Output, FullTx}
 use Rattle.cbdc_model.specs.Clean.{IsProperCompact}
-use Rattle.cbdc_model.specs.History.{Minted, minted, first_rows}
+use Rattle.cbdc_model.specs.History.{Minted, minted, first_rows, header_of}
 use Rattle.cbdc_model.specs.World.{KeptJournals, AreIdle}
 use Rattle.cbdc_model.specs.Lanes.{IsEnd}
 use Rattle.cbdc_model.specs.Waves.{Adds, prepared, has_prepare, has_done}
@@ -43,6 +43,11 @@ module _ (K : Shape) (minting : Minted) (P Q : Compact → Type 0) (some : 0 < K
   new_next : (n : ℕ) (newer rest : List Record) (r : Record) → J n ≡ newer ++ r ∷ rest → IsEnd (I n) rest → Next K n rest r
   new_next n newer rest r e h =
       ((lists_of K minting Q some after kept').each n newer rest r e (end_trans _ (I n) rest ((lists_of K minting P some before kept).begins n) h)).0
+
+  new_grammar : (n : ℕ) (newer rest : List Record) (r : Record) → J n ≡ newer ++ r ∷ rest → IsEnd (I n) rest
+      → IsInGrammar (header_of K minting.id n) r
+  new_grammar n newer rest r e h =
+      ((lists_of K minting Q some after kept').each n newer rest r e (end_trans _ (I n) rest ((lists_of K minting P some before kept).begins n) h)).3
 
   oks_from : (n : ℕ) (more newer : List Record) → J n ≡ newer ++ (more ++ I n) → Oks (more ++ I n)
   oks_from n [] newer e = record {
@@ -83,7 +88,9 @@ module _ (K : Shape) (minting : Minted) (P Q : Compact → Type 0) (some : 0 < K
           in
           omega (arith, below, above)
       not_again (Genesis header hs) next t = absurd next
+      not_again (Carry stamp header source hs numbers) next t = absurd next
       not_again (Start header) next t = absurd next
+      not_again (CarryStart stamp header source numbers) next t = absurd next
       not_again other next t = absurd (let z : false ≡ true = t in cc)
 
   module _ (grows : (n : ℕ) → IsEnd (I n) (J n)) where
@@ -185,6 +192,8 @@ module _ (K : Shape) (minting : Minted) (P Q : Compact → Type 0) (some : 0 < K
           at_node c n newer rest (Forget stamp c) next.1 (oks.more.in_finish c next.2 next.3).0
               (λ f. true_false _ f (oks.more.in_finish c next.2 next.3).1) e h,
         )
+        by_kind (Upgrade stamp batch) e next oks = absurd (new_grammar n newer rest (Upgrade stamp batch) e h)
+        by_kind (Seal stamp to shards) e next oks = absurd (new_grammar n newer rest (Seal stamp to shards) e h)
         by_kind other e next oks = absurd next
 
     rows_add : Adds IsNewOf I J

@@ -2,7 +2,7 @@
 use Rattle.std.proofs.Common.{◌≡◌, ◌⊎◌, inl, inr, ℕ, ◌-◌, ◌<◌, ◌≤◌, true, false, ◌&&◌, ◌==◌, List, [], ◌∷◌, ◌++◌, Contains, is_some, refl, sym, ap}
 use Rattle.std.proofs.Common.{◌∙◌, subst, arith, append_assoc}
 use Rattle.cbdc_model.specs.Records.{Shape, Batch, same_batch, Compact, Record, Row, journal, record_of, kind_of, is_of, is_in_lane, txs_in, txs_of}
-use Rattle.cbdc_model.specs.Records.{lock_of, Genesis, Lock, Finish, Forget, Start, Prepare, Commit, Discard, Done}
+use Rattle.cbdc_model.specs.Records.{lock_of, Genesis, Lock, Finish, Forget, Start, Prepare, Commit, Discard, Done, Upgrade, Carry, CarryStart, Seal}
 use Rattle.cbdc_model.specs.Slots.{slot}
 use Rattle.cbdc_model.specs.Grammar.{IsShard}
 use Rattle.cbdc_model.specs.Ranges.{home_of, shard_node, Concerned}
@@ -115,11 +115,15 @@ module _ (K : Shape) (minting : Minted) (P : Compact → Type 0) (some : 0 < K.s
     number_step : (r : Record) (past : List Record) → is_in_lane lane r ≡ true → Holds [] r → Next K (home_of K lane) past r
         → (slot (r ∷ past) lane).number ≡ (slot past lane).number
     number_step (Genesis header hs) past l h next = absurd next
+    number_step (Carry stamp header source hs numbers) past l h next = absurd next
     number_step (Start header) past l h next = absurd next
+    number_step (CarryStart stamp header source numbers) past l h next = absurd next
     number_step (Prepare stamp c txs) past l h next = absurd (held_none txs h)
     number_step (Commit stamp c os) past l h next = rw l (sym next.4 ∙ ap (λ m. (slot past m).number) (number_is c.lane lane l))
     number_step (Discard stamp c) past l h next = rw l (sym next.4 ∙ ap (λ m. (slot past m).number) (number_is c.lane lane l))
     number_step (Done stamp c) past l h next = rw l (sym next.4 ∙ ap (λ m. (slot past m).number) (number_is c.lane lane l))
+    number_step (Upgrade stamp batch) past l h next = absurd (let z : false ≡ true = l in cc)
+    number_step (Seal stamp to shards) past l h next = absurd (let z : false ≡ true = l in cc)
     number_step other past l h next = absurd (omega (arith, home, next.1.0))
 
     number_from : (more newer : List Record) → J (home_of K lane) ≡ newer ++ (more ++ I (home_of K lane))
@@ -215,6 +219,8 @@ module _ (K : Shape) (minting : Minted) (P : Compact → Type 0) (some : 0 < K.s
             let oks = oks_at n newer rest (Forget stamp c) e h in
             at_node c n newer rest (Forget stamp c) l next.1 (oks.1.in_finish c next.2 next.3).0
             (λ f. true_false _ f (oks.1.in_finish c next.2 next.3).1) e h
+        by_kind (Upgrade stamp batch) e l k next = absurd (let z : false ≡ true = l in cc)
+        by_kind (Seal stamp to shards) e l k next = absurd (let z : false ≡ true = l in cc)
         by_kind other e l k next = absurd next
 
     pub adds_open : Adds (λ c. c ≡ B) I J

@@ -1,12 +1,13 @@
 -- Along each journal of a history: what it found stays, and at a coordinator a lane's number is that of its Prepares.
-use Rattle.std.proofs.Common.{◌≡◌, ℕ, ◌+◌, ◌/◌, ◌<◌, ◌≤◌, true, false, ◌==◌, if◌then◌else◌, List, [], ◌∷◌, ◌++◌, length, reverse, is_some, refl, sym}
-use Rattle.std.proofs.Common.{ap, ◌∙◌, subst, arith, append_assoc}
+use Rattle.std.proofs.Common.{◌≡◌, ◌⊎◌, inl, inr, ℕ, ◌+◌, ◌-◌, ◌/◌, nat_lt, ◌<◌, ◌≤◌, true, false, ◌==◌, if◌then◌else◌, List, [], ◌∷◌, ◌++◌, length}
+use Rattle.std.proofs.Common.{reverse, is_some, refl, sym, ap, ◌∙◌, subst, arith, append_assoc}
 use Rattle.std.proofs.lemmas.List.{reverse-append, reverse-reverse, append_cancel_right, length-reverse, length-append}
 use Rattle.cbdc_model.specs.Records.{Shape, Batch, Compact, Record, Row, journal, record_of, Genesis, Lock, Finish, Forget, Start, Prepare, Commit}
-use Rattle.cbdc_model.specs.Records.{Discard, Done}
+use Rattle.cbdc_model.specs.Records.{Discard, Done, Upgrade, Carry, CarryStart, Seal}
 use Rattle.cbdc_model.specs.Slots.{Slot, Phase, slot, Idle, InLock, InFinish, InPrepare, InCommit, InDiscard}
-use Rattle.cbdc_model.specs.Ranges.{home_of}
-use Rattle.cbdc_model.specs.History.{Minted, first_rows}
+use Rattle.cbdc_model.specs.Ranges.{home_of, on_shard}
+use Rattle.cbdc_model.specs.History.{Minted, header_of, first_rows}
+use Rattle.cbdc_model.specs.World.{first_record}
 use Rattle.cbdc_model.specs.Lanes.{IsEnd, first_of}
 use Rattle.cbdc_model.specs.Waves.{prepared_before, prepared}
 use Rattle.ledger_laws.proofs.Next.{Next, Steady}
@@ -18,6 +19,7 @@ use Rattle.ledger_laws.proofs.Finds.{Once, first_once, found_stays}
 use Rattle.ledger_laws.proofs.Ledger.{SteadyLists}
 use Rattle.ledger_laws.proofs.Together.{lists_of}
 use Rattle.ledger_laws.proofs.Cuts.{end_self, end_trans}
+use Rattle.ledger_laws.proofs.FirstJournals.{first_is, first_beyond}
 
 pub shifted : (newer more : List Record) (r : Record) (old : List Record) → newer ++ r ∷ (more ++ old) ≡ (newer ++ r ∷ []) ++ (more ++ old)
 shifted newer more r old = sym (append_assoc newer (r ∷ []) (more ++ old))
@@ -49,17 +51,28 @@ prepared_more lane (r ∷ newer) older = ap (prepared_before lane r) (prepared_m
 pub first_prepared : (lane : ℕ) (J : List Record) → AllFirst J → prepared lane J ≡ []
 first_prepared lane [] f = refl
 first_prepared lane (Genesis header hs ∷ J) f = first_prepared lane J f.1
+first_prepared lane (Carry stamp header source hs numbers ∷ J) f = first_prepared lane J f.1
 first_prepared lane (Start header ∷ J) f = first_prepared lane J f.1
+first_prepared lane (CarryStart stamp header source numbers ∷ J) f = first_prepared lane J f.1
 first_prepared lane (other ∷ J) f = absurd f.0
 
 abbrev no_slot : Slot
 no_slot = record { number = 0; phase = Idle }
 
-first_slot : (lane : ℕ) (J : List Record) → AllFirst J → slot J lane ≡ no_slot
-first_slot lane [] f = refl
-first_slot lane (Genesis header hs ∷ J) f = first_slot lane J f.1
-first_slot lane (Start header ∷ J) f = first_slot lane J f.1
-first_slot lane (other ∷ J) f = absurd f.0
+in_or_beyond : (n m : ℕ) → (n < m) ⊎ (m ≤ n)
+in_or_beyond n m = grind arith
+
+-- a mint's ledger begins with no batch of any lane
+first_slot : (K : Shape) (m : Minted) (n lane : ℕ) → slot (first_of K m n) lane ≡ no_slot
+first_slot K m n lane = elim (in_or_beyond n (K.coordinators + K.shards)) [
+  | inr le ↦ ap (λ J. slot J lane) (first_beyond K m n le)
+  | inl lt ↦ ap (λ J. slot J lane) (first_is K m n lt) ∙ of_record
+]
+  where
+    of_record : slot (first_record K m n ∷ []) lane ≡ no_slot
+    of_record = elim (nat_lt n K.coordinators)
+        as (λ c. slot ((if c then Start (header_of K m.id n) else Genesis (header_of K m.id n) (on_shard K.shards (n - K.coordinators) m.hashes))
+        ∷ []) lane ≡ no_slot) [ true ↦ refl | false ↦ refl ]
 
 -- the list's halves where one item stands between
 pub turned : {A : Type 0} (newer older : List A) (x : A) (done : List A) → reverse done ≡ newer ++ x ∷ older
@@ -157,7 +170,9 @@ module _ (K : Shape) (m : Minted) (P : Compact → Type 0) (some : 0 < K.shards)
       → (slot rest lane).number ≡ length (prepared lane rest)
       → (slot (r ∷ rest) lane).number ≡ length (prepared lane (r ∷ rest))
   number_step n lane low rest (Genesis header hs) next h = absurd next
+  number_step n lane low rest (Carry stamp header source hs numbers) next h = absurd next
   number_step n lane low rest (Start header) next h = absurd next
+  number_step n lane low rest (CarryStart stamp header source numbers) next h = absurd next
   number_step n lane low rest (Prepare stamp b txs) next h = elim (b.lane == lane)
       as (λ c. (b.lane == lane) ≡ c → (if c then (record { number = b.number; phase = InPrepare }) else slot rest lane).number
       ≡ length (if c then txs ∷ prepared lane rest else prepared lane rest)) [
@@ -168,6 +183,8 @@ module _ (K : Shape) (m : Minted) (P : Compact → Type 0) (some : 0 < K.shards)
   number_step n lane low rest (Commit stamp b os) next h = number_kept lane rest b InCommit next.4 h
   number_step n lane low rest (Discard stamp b) next h = number_kept lane rest b InDiscard next.4 h
   number_step n lane low rest (Done stamp b) next h = number_kept lane rest b Idle next.4 h
+  number_step n lane low rest (Upgrade stamp batch) next h = h
+  number_step n lane low rest (Seal stamp to shards) next h = h
   number_step n lane low rest other next h = absurd (omega (arith, low, next.1.0))
 
   -- a lane's number is how often it has prepared
@@ -175,8 +192,7 @@ module _ (K : Shape) (m : Minted) (P : Compact → Type 0) (some : 0 < K.shards)
       → (slot V lane).number ≡ length (prepared lane V)
   number_is n lane low V begins ends =
       grown n (λ V. (slot V lane).number ≡ length (prepared lane V))
-      (ap (λ s. s.number) (first_slot lane (first_of K m n) (all_are_first n))
-      ∙ sym (ap length (first_prepared lane (first_of K m n) (all_are_first n))))
+      (ap (λ s. s.number) (first_slot K m n lane) ∙ sym (ap length (first_prepared lane (first_of K m n) (all_are_first n))))
       (λ rest r next h. number_step n lane low rest r next h) V begins ends
 
   coord_kept : (n lane : ℕ) (rest : List Record) (b : Batch) (p : Phase) → IsCoordSlot K n b.lane p → IsCoordSlot K n lane (slot rest lane).phase
@@ -190,18 +206,22 @@ module _ (K : Shape) (m : Minted) (P : Compact → Type 0) (some : 0 < K.shards)
   coord_step : (n lane : ℕ) → n < K.coordinators → (rest : List Record) (r : Record) → Next K n rest r → IsCoordSlot K n lane (slot rest lane).phase
       → IsCoordSlot K n lane (slot (r ∷ rest) lane).phase
   coord_step n lane low rest (Genesis header hs) next h = absurd next
+  coord_step n lane low rest (Carry stamp header source hs numbers) next h = absurd next
   coord_step n lane low rest (Start header) next h = absurd next
+  coord_step n lane low rest (CarryStart stamp header source numbers) next h = absurd next
   coord_step n lane low rest (Prepare stamp b txs) next h = coord_kept n lane rest b InPrepare next.2 h
   coord_step n lane low rest (Commit stamp b os) next h = coord_kept n lane rest b InCommit next.2 h
   coord_step n lane low rest (Discard stamp b) next h = coord_kept n lane rest b InDiscard next.2 h
   coord_step n lane low rest (Done stamp b) next h = coord_kept n lane rest b Idle tt h
+  coord_step n lane low rest (Upgrade stamp batch) next h = h
+  coord_step n lane low rest (Seal stamp to shards) next h = h
   coord_step n lane low rest other next h = absurd (omega (arith, low, next.1.0))
 
   pub coord_slot : (n lane : ℕ) → n < K.coordinators → (V : List Record) → IsEnd (first_of K m n) V → IsEnd V (J n)
       → IsCoordSlot K n lane (slot V lane).phase
   coord_slot n lane low V begins ends =
       grown n (λ V. IsCoordSlot K n lane (slot V lane).phase)
-      (subst (λ s. IsCoordSlot K n lane s.phase) (sym (first_slot lane (first_of K m n) (all_are_first n))) tt)
+      (subst (λ s. IsCoordSlot K n lane s.phase) (sym (first_slot K m n lane)) tt)
       (λ rest r next h. coord_step n lane low rest r next h) V begins ends
 
   shard_kept : (lane : ℕ) (rest : List Record) (b : Batch) (p : Phase) → IsShardSlot p → IsShardSlot (slot rest lane).phase
@@ -215,15 +235,19 @@ module _ (K : Shape) (m : Minted) (P : Compact → Type 0) (some : 0 < K.shards)
   shard_step : (n lane : ℕ) → K.coordinators ≤ n → (rest : List Record) (r : Record) → Next K n rest r → IsShardSlot (slot rest lane).phase
       → IsShardSlot (slot (r ∷ rest) lane).phase
   shard_step n lane high rest (Genesis header hs) next h = absurd next
+  shard_step n lane high rest (Carry stamp header source hs numbers) next h = absurd next
   shard_step n lane high rest (Start header) next h = absurd next
+  shard_step n lane high rest (CarryStart stamp header source numbers) next h = absurd next
   shard_step n lane high rest (Lock stamp b es) next h = shard_kept lane rest b InLock tt h
   shard_step n lane high rest (Finish stamp b ds) next h = shard_kept lane rest b InFinish tt h
   shard_step n lane high rest (Forget stamp b) next h = shard_kept lane rest b Idle tt h
+  shard_step n lane high rest (Upgrade stamp batch) next h = h
+  shard_step n lane high rest (Seal stamp to shards) next h = h
   shard_step n lane high rest other next h = absurd (omega (arith, high, next.1))
 
   pub shard_slot : (n lane : ℕ) → K.coordinators ≤ n → (V : List Record) → IsEnd (first_of K m n) V → IsEnd V (J n) → IsShardSlot (slot V lane).phase
   shard_slot n lane high V begins ends =
-      grown n (λ V. IsShardSlot (slot V lane).phase) (subst (λ s. IsShardSlot s.phase) (sym (first_slot lane (first_of K m n) (all_are_first n))) tt)
+      grown n (λ V. IsShardSlot (slot V lane).phase) (subst (λ s. IsShardSlot s.phase) (sym (first_slot K m n lane)) tt)
       (λ rest r next h. shard_step n lane high rest r next h) V begins ends
 
   up : (lane : ℕ) (rest : List Record) (b : Batch) (p : Phase) → (slot rest b.lane).number ≤ b.number
@@ -248,6 +272,8 @@ module _ (K : Shape) (m : Minted) (P : Compact → Type 0) (some : 0 < K.shards)
   rises n lane rest (Commit stamp b os) next = level lane rest b InCommit next.4
   rises n lane rest (Discard stamp b) next = level lane rest b InDiscard next.4
   rises n lane rest (Done stamp b) next = level lane rest b Idle next.4
+  rises n lane rest (Upgrade stamp batch) next = omega arith
+  rises n lane rest (Seal stamp to shards) next = omega arith
   rises n lane rest other next = absurd next
 
   pub number_grows : (n lane : ℕ) (V W : List Record) → IsEnd (first_of K m n) V → IsEnd V W → IsEnd W (J n)

@@ -2,7 +2,7 @@
 use Rattle.std.proofs.Common.{◌≡◌, ◌⊎◌, inl, inr, ℕ, suc, ◌^◌, ◌<◌, ◌≤◌, Bool, true, false, ◌&&◌, not, nat_lt, List, [], ◌∷◌, ◌++◌, length, Option}
 use Rattle.std.proofs.Common.{Some, None, is_some, refl, sym, ap, ◌∙◌, subst, arith}
 use Rattle.cbdc_model.specs.Records.{Shape, Batch, Compact, Entry, Answered, Record, Row, journal, record_of, is_in_lane, lock_of, txs_of}
-use Rattle.cbdc_model.specs.Records.{outcomes_of, stamp_in, stamp_of, Forget, Prepare, Commit, Discard, Done}
+use Rattle.cbdc_model.specs.Records.{outcomes_of, stamp_in, stamp_of, Forget, Prepare, Commit, Discard, Done, Carry, CarryStart}
 use Rattle.cbdc_model.specs.Slots.{Phase, slot, slot_stamp, Idle, InLock, InFinish, InPrepare, InCommit, InDiscard}
 use Rattle.cbdc_model.specs.Grammar.{IsInGrammar}
 use Rattle.cbdc_model.specs.Replies.{entries}
@@ -34,6 +34,7 @@ use Rattle.run_laws.proofs.Rests.{none_beyond}
 use Rattle.run_laws.proofs.Seen.{seen_log, seen_shard}
 use Rattle.run_laws.proofs.LastRecords.{LastStands, last_stands, last_stamped, IsShardPhase, of_shard, stamp_fits, prepare_stands, commit_stands}
 use Rattle.run_laws.proofs.LastRecords.{discard_stands}
+use Rattle.ledger_laws.proofs.Begun.{not_begun}
 
 outcomes_length : (locks : ℕ → List Answered) (shards k : ℕ) (txs : List Compact) → length (outcomes locks shards k txs) ≡ length txs
 outcomes_length locks shards k [] = refl
@@ -160,7 +161,8 @@ module _ (K : Shape) (minting : Minted) (P : Compact → Type 0) (some : 0 < K.s
 
     no_shard_phase : IsShardPhase (slot H b.lane).phase → ⊥
     no_shard_phase p = let le : K.coordinators ≤ home_of K b.lane =
-        of_shard (header_of K minting.id (home_of K b.lane)) last.last last_grammar (subst IsShardPhase (sym last.phase) p) in omega (arith, le, home)
+        of_shard (header_of K minting.id (home_of K b.lane)) b.lane last.last last_grammar (subst IsShardPhase (sym last.phase) p) in
+        omega (arith, le, home)
 
     module _ (prepared : is_some (record_of 6 H b) ≡ true) where
       prepare : (stamp : ℕ) × (record_of 6 H b ≡ Some (Prepare stamp b (txs_of H b)))
@@ -213,15 +215,15 @@ module _ (K : Shape) (minting : Minted) (P : Compact → Type 0) (some : 0 < K.s
           → (is_some (record_of 4 (S s) b) ≡ true) × (stamp_in (record_of 4 (S s) b) ≡ slot_stamp (S s) b.lane)
       forgot s c n i = elim (last_of (S s) b.lane) as
           (λ o. last_of (S s) b.lane ≡ o → (is_some (record_of 4 (S s) b) ≡ true) × (stamp_in (record_of 4 (S s) b) ≡ slot_stamp (S s) b.lane)) [
-            | None ↦ λ e. absurd (let z : (slot (S s) b.lane).number ≡ 0 = ap (λ q. q.number) (slot_is (S s) b.lane ∙ ap slot_by e) in
+            | None ↦ λ e. absurd (let z : (slot (S s) b.lane).number ≡ 0 = ap (λ q. q.number) (slot_is (S s) b.lane ∙ ap (slot_by b.lane) e) in
                 omega (arith, z, n, prepare_grammar.1.1))
             | Some r ↦ λ e. of_record r e (last_in_lane (S s) b.lane r e)
-                (sym (ap (λ q. q.number) (slot_is (S s) b.lane ∙ ap slot_by e)) ∙ n)
-                (sym (ap (λ q. q.phase) (slot_is (S s) b.lane ∙ ap slot_by e)) ∙ i)
+                (sym (ap (λ q. q.number) (slot_is (S s) b.lane ∙ ap (slot_by b.lane) e)) ∙ n)
+                (sym (ap (λ q. q.phase) (slot_is (S s) b.lane ∙ ap (slot_by b.lane) e)) ∙ i)
           ] refl
         where
-          of_record : (r : Record) → last_of (S s) b.lane ≡ Some r → is_in_lane b.lane r ≡ true → (slot_by (Some r)).number ≡ b.number
-              → (slot_by (Some r)).phase ≡ Idle
+          of_record : (r : Record) → last_of (S s) b.lane ≡ Some r → is_in_lane b.lane r ≡ true → (slot_by b.lane (Some r)).number ≡ b.number
+              → (slot_by b.lane (Some r)).phase ≡ Idle
               → (is_some (record_of 4 (S s) b) ≡ true) × (stamp_in (record_of 4 (S s) b) ≡ slot_stamp (S s) b.lane)
           of_record (Forget stamp d) e l m i =
               let f : record_of 4 (S s) b ≡ Some (Forget stamp d) = last_found (S s) 4 b (Forget stamp d) e (both_same d b l m) in
@@ -230,6 +232,10 @@ module _ (K : Shape) (minting : Minted) (P : Compact → Type 0) (some : 0 < K.s
               absurd (true_false _ ((all_phases K minting P some later kept (shard_node K s)).done_prepared b
               (ap is_some (last_found (S s) 9 b (Done stamp d) e (both_same d b l m)))).0
               ((all_dones K minting P some later kept (shard_node K s)).pure b (omega arith)))
+          of_record (Carry stamp header source hs numbers) e l m i =
+              absurd (not_begun K minting P later kept (shard_node K s) b.lane (Carry stamp header source hs numbers) e tt)
+          of_record (CarryStart stamp header source numbers) e l m i =
+              absurd (not_begun K minting P later kept (shard_node K s) b.lane (CarryStart stamp header source numbers) e tt)
           of_record other e l m i = cc
 
     -- ---- how far a concerned shard has come

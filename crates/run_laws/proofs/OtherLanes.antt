@@ -5,7 +5,8 @@ use Rattle.cbdc_model.specs.Records.{Shape, Compact, Record, is_in_lane, Prepare
 use Rattle.cbdc_model.specs.Slots.{slot}
 use Rattle.cbdc_model.specs.Lanes.{may_come, Made}
 use Rattle.cbdc_model.specs.Waves.{prepared}
-use Rattle.ledger_laws.proofs.ByKind.{lanes_apart}
+use Rattle.ledger_laws.proofs.ByKind.{held_later, lanes_apart}
+use Rattle.cbdc_model.specs.After.{IsFirst}
 use Rattle.ledger_laws.proofs.Last.{slot_stays}
 use Rattle.run_laws.specs.Runs.{seen_by, LeavesOthers, OthersLaw}
 use Rattle.run_laws.proofs.TurnStep.{lifted}
@@ -22,8 +23,9 @@ passed true x y h = absurd (let z : true ≡ false = h in cc)
 passed false x y h = refl
 
 -- a record of the lane leaves the slot of another
-slot_step : (lane other : ℕ) (r : Record) (past : List Record) → other ≢ lane → is_in_lane lane r ≡ true → slot (r ∷ past) other ≡ slot past other
-slot_step lane other r past apart h = slot_stays r past other (lanes_apart lane other r h (unlike lane other apart))
+slot_step : (lane other : ℕ) (r : Record) (past : List Record) → (IsFirst r → ⊥) → other ≢ lane → is_in_lane lane r ≡ true
+    → slot (r ∷ past) other ≡ slot past other
+slot_step lane other r past later apart h = slot_stays r past other (lanes_apart lane other r later h (unlike lane other apart))
 
 -- and is no Prepare of another
 prepared_step : (lane other : ℕ) (r : Record) (past : List Record) → other ≢ lane → is_in_lane lane r ≡ true
@@ -43,13 +45,19 @@ module _ (K : Shape) (pieces : List (List Compact)) (lane : ℕ) (I J : ℕ → 
     | inr s ↦ s.0
   ]
 
+  new : (n : ℕ) (newer more : List Record) (r : Record) → J n ≡ newer ++ r ∷ (more ++ I n) → IsFirst r → ⊥
+  new n newer more r e = elim (made.each n newer (more ++ I n) r e (more, refl)) [
+    | inl o ↦ absurd (not_alone r o)
+    | inr s ↦ held_later pieces r s.2
+  ]
+
   shifted : (newer more : List Record) (r : Record) (old : List Record) → newer ++ r ∷ (more ++ old) ≡ (newer ++ r ∷ []) ++ (more ++ old)
   shifted newer more r old = sym (append_assoc newer (r ∷ []) (more ++ old))
 
   slots_from : (n other : ℕ) → other ≢ lane → (more newer : List Record) → J n ≡ newer ++ (more ++ I n) → slot (more ++ I n) other ≡ slot (I n) other
   slots_from n other apart [] newer e = refl
   slots_from n other apart (r ∷ more) newer e =
-      slot_step lane other r (more ++ I n) apart (its_own n newer more r e)
+      slot_step lane other r (more ++ I n) (new n newer more r e) apart (its_own n newer more r e)
       ∙ slots_from n other apart more (newer ++ r ∷ []) (e ∙ shifted newer more r (I n))
 
   prepared_from : (n other : ℕ) → other ≢ lane → (more newer : List Record) → J n ≡ newer ++ (more ++ I n)

@@ -4,7 +4,7 @@ use Rattle.std.proofs.Common.{◌≡◌, inl, inr, ℕ, ◌+◌, ◌-◌, ◌*�
 use Rattle.std.proofs.Common.{is_some, refl, sym, ap, ◌∙◌, subst, arith, append_assoc}
 use Rattle.std.specs.List.{filter}
 use Rattle.cbdc_model.specs.Records.{Shape, Batch, Compact, Entry, Answered, Outcome, Record, Row, journal, record_of, is_in_lane, is_of, txs_in}
-use Rattle.cbdc_model.specs.Records.{lock_of, txs_of, Lock, Finish, Forget, Prepare, Commit, Discard, Done}
+use Rattle.cbdc_model.specs.Records.{lock_of, txs_of, Lock, Finish, Forget, Prepare, Commit, Discard, Done, Upgrade, Seal}
 use Rattle.cbdc_model.specs.Slots.{slot, InLock, InFinish, InPrepare, InCommit, InDiscard}
 use Rattle.cbdc_model.specs.Replies.{entries}
 use Rattle.cbdc_model.specs.Ranges.{home_of, shard_node, part, is_no_part, Concerned}
@@ -29,6 +29,7 @@ use Rattle.run_laws.proofs.Lanes.{others_stay, new_slot, lock_found, txs_found, 
 use Rattle.run_laws.proofs.Weights.{weight, all_at_home, home_in_records, kept_shard, from_lock, shard_in_records}
 use Rattle.run_laws.proofs.Budgets.{not_yet, not_there, unwritten_is, budget, budget_open, budget_new}
 use Rattle.run_laws.proofs.Growth.{home_in, fits_long, IsOpenBatch, open_where, kept_covered}
+use Rattle.cbdc_model.specs.After.{IsFirst}
 
 -- behind the same journal
 past : (newer rest : List Record) (r : Record) → newer ++ r ∷ rest ≡ (newer ++ r ∷ []) ++ rest
@@ -66,18 +67,18 @@ module _ (K : Shape) (m : Minted) (P : Compact → Type 0) (some : 0 < K.shards)
         ≤ total s.taken (E n) + sum_below (λ lane. B n lane (slot V lane).number) (K.coordinators * K.lanes)
 
     -- a record that weighs no more, with what is kept behind it, than what was kept and the batches that come with it
-    within_step : (n : ℕ) (rest : List Record) (r : Record) (lane : ℕ) → lane < K.coordinators * K.lanes → is_in_lane lane r ≡ true
+    within_step : (n : ℕ) (rest : List Record) (r : Record) (lane : ℕ) → (IsFirst r → ⊥) → lane < K.coordinators * K.lanes → is_in_lane lane r ≡ true
         → s.taken r + kept_for s (r ∷ rest) lane + B n lane (slot rest lane).number ≤ kept_for s rest lane + B n lane (slot (r ∷ rest) lane).number
         → IsWithin n rest → IsWithin n (r ∷ rest)
-    within_step n rest r lane lt of own h =
+    within_step n rest r lane new lt of own h =
         let keeps : sum_below (λ l. kept_for s (r ∷ rest) l) (K.coordinators * K.lanes) + kept_for s rest lane
         ≡ sum_below (λ l. kept_for s rest l) (K.coordinators * K.lanes) + kept_for s (r ∷ rest) lane
         = sum_moves (λ l. kept_for s rest l) (λ l. kept_for s (r ∷ rest) l) lane (K.coordinators * K.lanes)
-        (λ l apart. kept_same s rest (r ∷ rest) l (others_stay rest r lane l of apart)) lt in
+        (λ l apart. kept_same s rest (r ∷ rest) l (others_stay rest r lane l new of apart)) lt in
         let plans : sum_below (λ l. B n l (slot (r ∷ rest) l).number) (K.coordinators * K.lanes) + B n lane (slot rest lane).number
         ≡ sum_below (λ l. B n l (slot rest l).number) (K.coordinators * K.lanes) + B n lane (slot (r ∷ rest) lane).number
         = sum_moves (λ l. B n l (slot rest l).number) (λ l. B n l (slot (r ∷ rest) l).number) lane (K.coordinators * K.lanes)
-        (λ l apart. ap (λ x. B n l x.number) (others_stay rest r lane l of apart).slots) lt in
+        (λ l apart. ap (λ x. B n l x.number) (others_stay rest r lane l new of apart).slots) lt in
         omega (arith, keeps, plans, own, h)
 
     -- the batch of a Lock that is still to come at a shard, by its Prepare
@@ -328,18 +329,19 @@ module _ (K : Shape) (m : Minted) (P : Compact → Type 0) (some : 0 < K.shards)
     step : (n : ℕ) (newer rest : List Record) (r : Record) → X n ≡ newer ++ r ∷ rest → IsEnd (E n) rest → Next K n rest r → Seen K X n rest r
         → IsInGrammar (header_of K m.id n) r → IsWithin n rest → IsWithin n (r ∷ rest)
     step n newer rest (Prepare t b txs) e h next seen g w =
-        within_step n rest (Prepare t b txs) b.lane g.1.0 (same_number b.lane) (own_prepare n newer rest t b txs e h next g.1.0) w
+        within_step n rest (Prepare t b txs) b.lane (λ f. f) g.1.0 (same_number b.lane) (own_prepare n newer rest t b txs e h next g.1.0) w
     step n newer rest (Commit t b os) e h next seen g w =
-        within_step n rest (Commit t b os) b.lane g.1.0 (same_number b.lane) (own_commit n rest t b os next) w
+        within_step n rest (Commit t b os) b.lane (λ f. f) g.1.0 (same_number b.lane) (own_commit n rest t b os next) w
     step n newer rest (Discard t b) e h next seen g w =
-        within_step n rest (Discard t b) b.lane g.1.0 (same_number b.lane) (own_discard n rest t b next) w
-    step n newer rest (Done t b) e h next seen g w = within_step n rest (Done t b) b.lane g.1.0 (same_number b.lane) (own_done n rest t b next) w
+        within_step n rest (Discard t b) b.lane (λ f. f) g.1.0 (same_number b.lane) (own_discard n rest t b next) w
+    step n newer rest (Done t b) e h next seen g w =
+        within_step n rest (Done t b) b.lane (λ f. f) g.1.0 (same_number b.lane) (own_done n rest t b next) w
     step n newer rest (Finish t b ds) e h next seen g w =
-        within_step n rest (Finish t b ds) b.lane g.1.0 (same_number b.lane) (own_finish n rest t b ds next) w
+        within_step n rest (Finish t b ds) b.lane (λ f. f) g.1.0 (same_number b.lane) (own_finish n rest t b ds next) w
     step n newer rest (Forget t b) e h next seen g w =
-        within_step n rest (Forget t b) b.lane g.1.0 (same_number b.lane) (own_forget n rest t b next) w
+        within_step n rest (Forget t b) b.lane (λ f. f) g.1.0 (same_number b.lane) (own_forget n rest t b next) w
     step n newer rest (Lock t b es) e h next seen g w =
-        within_step n rest (Lock t b es) b.lane g.1.0 (same_number b.lane) (at_shard_of n e h next seen) w
+        within_step n rest (Lock t b es) b.lane (λ f. f) g.1.0 (same_number b.lane) (at_shard_of n e h next seen) w
       where
         at_shard_of : (n : ℕ) → X n ≡ newer ++ Lock t b es ∷ rest → IsEnd (E n) rest → Next K n rest (Lock t b es) → Seen K X n rest (Lock t b es)
             → s.taken (Lock t b es) + kept_for s (Lock t b es ∷ rest) b.lane + B n b.lane (slot rest b.lane).number
@@ -350,6 +352,8 @@ module _ (K : Shape) (m : Minted) (P : Compact → Type 0) (some : 0 < K.shards)
             → s.taken (Lock t b es) + kept_for s (Lock t b es ∷ rest) b.lane + B k b.lane (slot rest b.lane).number
             ≤ kept_for s rest b.lane + B k b.lane (slot (Lock t b es ∷ rest) b.lane).number) at
             (λ e h next seen. own_lock (n - K.coordinators) newer rest t b es (omega (arith, next.1.0, next.1.1)) e h next seen g.1.0) e h next seen
+    step n newer rest (Upgrade t batch) e h next seen g w = absurd g
+    step n newer rest (Seal t to shards) e h next seen g w = absurd g
     step n newer rest other e h next seen g w = absurd next
 
     -- so it is of each journal between

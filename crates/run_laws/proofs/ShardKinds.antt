@@ -2,7 +2,7 @@
 use Rattle.std.proofs.Common.{◌≡◌, ◌⊎◌, inl, inr, ℕ, ◌+◌, ◌-◌, ◌<◌, Bool, true, false, ◌&&◌, ◌==◌, nat_lt, if◌then◌else◌, List, [], ◌∷◌, ◌++◌, refl}
 use Rattle.std.proofs.Common.{sym, subst, arith}
 use Rattle.cbdc_model.specs.Records.{Digest, Shape, Compact, Batch, Record, Row, journal, kind_of, is_of, same_batch, Genesis, Lock, Finish, Forget}
-use Rattle.cbdc_model.specs.Records.{Start}
+use Rattle.cbdc_model.specs.Records.{Start, Upgrade, Carry, CarryStart, Seal}
 use Rattle.cbdc_model.specs.Ranges.{shard_node, on_shard}
 use Rattle.cbdc_model.specs.Grammar.{IsInGrammar}
 use Rattle.cbdc_model.specs.Clean.{IsProperCompact}
@@ -40,6 +40,10 @@ module _ (K : Shape) (m : Minted) (P : Compact → Type 0) (s kind : ℕ) (b : B
   not_it id n (Finish stamp c ds) e g = false_and (3 == kind) (same_batch c b) (unlike 3 kind (λ k. other (inr (inl k))))
   not_it id n (Forget stamp c) e g = false_and (4 == kind) (same_batch c b) (unlike 4 kind (λ k. other (inr (inr k))))
   not_it id n (Start header) e g = and_false (5 == kind)
+  not_it id n (Upgrade stamp batch) e g = absurd g
+  not_it id n (Carry stamp header source hs numbers) e g = absurd g
+  not_it id n (CarryStart stamp header source numbers) e g = absurd g
+  not_it id n (Seal stamp to shards) e g = absurd g
   not_it id n other e g = let l : n < K.coordinators = g.2 in absurd (omega arith)
 
   first : count_of kind (first_record K m (shard_node K s) ∷ []) b ≡ 0

@@ -2,31 +2,25 @@
 use Rattle.std.proofs.Common.{◌≡◌, ◌⊎◌, inl, inr, ℕ, suc, ◌+◌, ◌-◌, ◌<◌, ◌≤◌, List, [], ◌∷◌, ◌++◌, length, refl, sym, ap, ◌∙◌, subst, arith}
 use Rattle.std.proofs.Common.{append_assoc}
 use Rattle.std.proofs.lemmas.List.{length-append}
-use Rattle.cbdc_model.specs.Records.{Shape, Batch, Compact, Record, Row, journal, record_of, stamp_of, stamp_in, last_stamp, Genesis, Start}
+use Rattle.cbdc_model.specs.Records.{Shape, Batch, Compact, Record, Row, journal, record_of, stamp_of, stamp_in, last_stamp}
 use Rattle.cbdc_model.specs.Causes.{IsCaused}
 use Rattle.cbdc_model.specs.History.{Minted, first_rows}
 use Rattle.cbdc_model.specs.Lanes.{IsEnd, first_of}
 use Rattle.ledger_laws.proofs.Next.{Steady}
-use Rattle.ledger_laws.proofs.ByKind.{after_stamp, at_a_node}
-use Rattle.ledger_laws.proofs.First.{AllFirst, journal_first, all_first}
+use Rattle.ledger_laws.proofs.ByKind.{after_stamp, at_a_node, next_not_first}
 use Rattle.ledger_laws.proofs.Rows.{at, away, at_node, head_at, head_away}
 use Rattle.ledger_laws.proofs.Repeats.{all_order}
 use Rattle.ledger_laws.proofs.HistoryLaws.{journal-append}
 use Rattle.ledger_laws.proofs.Cuts.{end_trans}
 use Rattle.run_laws.proofs.Sums.{sum_below, sum_le, sum_more}
 use Rattle.run_laws.proofs.Numbers.{lists, further}
-use Rattle.run_laws.proofs.WorldStamps.{caused_le}
-
-first_stamp : (J : List Record) → AllFirst J → last_stamp J ≡ 0
-first_stamp [] f = refl
-first_stamp (Genesis header hs ∷ J) f = refl
-first_stamp (Start header ∷ J) f = refl
-first_stamp (other ∷ J) f = absurd f.0
+use Rattle.run_laws.proofs.WorldStamps.{caused_le, first_stamp}
+use Rattle.cbdc_model.specs.After.{IsFirst}
 
 -- a record's stamp is at most one more than the greatest before it
-caused_most : (K : Shape) (J : ℕ → List Record) (n bound : ℕ) (r : Record) → ((k : ℕ) → last_stamp (J k) ≤ bound)
+caused_most : (K : Shape) (J : ℕ → List Record) (n bound : ℕ) (r : Record) → (IsFirst r → ⊥) → ((k : ℕ) → last_stamp (J k) ≤ bound)
     → ((k kind : ℕ) (b : Batch) → stamp_in (record_of kind (J k) b) ≤ bound) → IsCaused K J n r → stamp_of r ≤ suc bound
-caused_most K J n bound r lasts finds c = caused_le K J n bound r lasts (λ kind m b. finds m kind b) c
+caused_most K J n bound r later lasts finds c = caused_le K J n bound r later lasts (λ kind m b. finds m kind b) c
 
 -- of two beginnings of a list the shorter is one of the longer
 shorter : {A : Type 0} (a b : List A) (U V : List A) → a ++ U ≡ b ++ V → length U ≤ length V → (more : List A) × (V ≡ more ++ U)
@@ -96,7 +90,8 @@ module _ (K : Shape) (m : Minted) (P : Compact → Type 0) (some : 0 < K.shards)
         here = head_at row (later ++ first_rows K m) row.node refl
 
         low : stamp_of row.what ≤ suc (top + come (whole later))
-        low = caused_most K (whole later) row.node (top + come (whole later)) row.what h
+        low = caused_most K (whole later) row.node (top + come (whole later)) row.what
+            (next_not_first K row.node (whole later row.node) row.what kept.0) h
             (λ n kind b. (let le : stamp_in (record_of kind (whole later n) b) ≤ last_stamp (whole later n) =
             (all_order K m P some later kept.3 n).stamps_le kind b in omega (arith, le, h n))) kept.1
 
@@ -132,8 +127,7 @@ module _ (K : Shape) (m : Minted) (P : Compact → Type 0) (some : 0 < K.shards)
         ]
 
     bounded : (newer later : List Row) → after ≡ newer ++ later → Steady K m P later → Bounded later
-    bounded newer [] e kept = λ n. (let z : last_stamp (journal n (first_rows K m)) ≡ 0 =
-        first_stamp (journal n (first_rows K m)) (journal_first n (first_rows K m) (all_first K m P some)) in omega (arith, z))
+    bounded newer [] e kept = λ n. (let z : last_stamp (journal n (first_rows K m)) ≡ 0 = first_stamp K m n in omega (arith, z))
     bounded newer (row ∷ later) e kept =
         bounded_step newer later row e kept (bounded (newer ++ row ∷ []) later (e ∙ sym (append_assoc newer (row ∷ []) later)) kept.3)
 

@@ -6,7 +6,7 @@ use Rattle.cbdc_model.specs.History.{Minted, minted}
 use Rattle.cbdc_model.specs.Lanes.{Made, NextFrom, Wave}
 use Rattle.cbdc_model.specs.Sights.{Sight}
 use Rattle.lane_laws.specs.Batches.{view}
-use Rattle.ledger_laws.proofs.Turns.{made_lift, turns_begin, turns_next, turns_wave}
+use Rattle.ledger_laws.proofs.Turns.{made_lift, turns_begin, turns_next, in_lanes_begin, in_lanes_next, turns_wave}
 use Rattle.ledger_laws.proofs.LaneLaws.{wave_law}
 use Rattle.ledger_laws.proofs.Together.{wave_keeps}
 use Rattle.run_laws.specs.Runs.{seen_by, IsTurn, TurnLaw, CheckedTurnLaw}
@@ -72,6 +72,8 @@ module _ (K : Shape) (pieces : List (List Compact)) (lane : ℕ) (logs shards lo
   pub one_wave : (m : Minted) → NextFrom K m (seen_by K logs shards) (seen_by K logs' shards')
       → Wave K m (λ l. pieces) (seen_by K logs shards) (seen_by K logs' shards')
   one_wave m next = turns_wave K m (λ l. pieces) (seen_by K logs shards) (seen_by K logs' shards') next
+      (in_lanes_next K (seen_by K logs shards) (seen_by K logs shards) (seen_by K logs' shards') lane pieces (in_lanes_begin (seen_by K logs shards))
+      lifted)
       (turns_next K (λ l. pieces) (seen_by K logs shards) (seen_by K logs shards) (seen_by K logs' shards') lane pieces (λ txs h. h)
       (turns_begin K (λ l. pieces) (seen_by K logs shards)) lifted)
 

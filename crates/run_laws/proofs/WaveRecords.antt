@@ -2,7 +2,7 @@
 use Rattle.std.proofs.Common.{◌≡◌, ℕ, suc, ◌<◌, Bool, true, false, ◌&&◌, ◌==◌, if◌then◌else◌, List, [], ◌∷◌, ◌++◌, Some, is_some, refl, sym, ap, ◌∙◌}
 use Rattle.std.proofs.Common.{subst, arith, append_assoc}
 use Rattle.cbdc_model.specs.Records.{Digest, Shape, Batch, same_batch, Compact, Entry, Answered, Record, Row, journal, record_of, kind_of, is_of}
-use Rattle.cbdc_model.specs.Records.{is_held, entries_in, txs_of, lock_of, Genesis, Lock, Finish, Start}
+use Rattle.cbdc_model.specs.Records.{is_held, entries_in, txs_of, lock_of, Genesis, Lock, Finish, Start, Carry, CarryStart}
 use Rattle.cbdc_model.specs.Status.{Status, status, has, held_inputs, made_outputs, returned_inputs, taken_inputs, finished_status, Unspent, Locked}
 use Rattle.cbdc_model.specs.Status.{Absent}
 use Rattle.cbdc_model.specs.Replies.{entries}
@@ -176,7 +176,10 @@ module _ (K : Shape) (minting : Minted) (P : Compact → Type 0) (some : 0 < K.s
       step : (newer past : List Record) (r : Record) → J n ≡ newer ++ r ∷ past → IsEnd (I n) past → (has_lock (r ∷ past) b ≡ true → ⊥) → Stays past
           → Stays (r ∷ past)
       step newer past (Genesis header hs) e h free stays = absurd (next_in n newer past (Genesis header hs) e h)
+      step newer past (Carry stamp header source hs numbers) e h free stays = absurd (next_in n newer past (Carry stamp header source hs numbers) e h)
       step newer past (Start header) e h free stays = absurd (next_in n newer past (Start header) e h)
+      step newer past (CarryStart stamp header source numbers) e h free stays =
+          absurd (next_in n newer past (CarryStart stamp header source numbers) e h)
       step newer past (Lock stamp c es) e h free stays =
           lock_step newer past stamp c es (lock_lacks newer past stamp c es e h
           (λ same. free (ap is_some (found_new 2 (Lock stamp c es) past b

@@ -1,7 +1,7 @@
 -- How far a run has come: through the lanes that an earlier run left open, and through its files.
 use Rattle.std.proofs.Common.{◌≡◌, ◌≢◌, ◌⊎◌, inl, inr, ℕ, suc, ◌<◌, ◌≤◌, Bool, true, false, ◌&&◌, ◌==◌, List, [], ◌∷◌, ◌++◌, is_some, refl, sym, ap}
 use Rattle.std.proofs.Common.{◌∙◌, subst, arith}
-use Rattle.cbdc_model.specs.Records.{Shape, Batch, Record, record_of, is_of, Genesis}
+use Rattle.cbdc_model.specs.Records.{Shape, Batch, Record, record_of, is_of, Genesis, Carry}
 use Rattle.cbdc_model.specs.Ranges.{home_of}
 use Rattle.cbdc_model.specs.Slots.{slot, Idle}
 use Rattle.cbdc_model.specs.Coins.{FullTx}
@@ -40,6 +40,7 @@ not_before kind c I J h f = not_true _ (λ t. true_false _ (grown kind c I J h t
 -- a record is of one batch
 pub one_batch : (c b : Batch) (r : Record) → is_of c r ≡ true → is_of b r ≡ true → c ≡ b
 one_batch c b (Genesis header hs) x y = absurd (let z : false ≡ true = x in cc)
+one_batch c b (Carry stamp header source hs numbers) x y = absurd (let z : false ≡ true = x in cc)
 one_batch c b other x y = same_batch_is c b (grind (arith, x, y))
 
 pub second : (a c : Bool) → (a && c) ≡ true → c ≡ true

@@ -79,8 +79,8 @@ pub record HasFailed (K : Shape) (lane : ℕ) (next : List Compact → Type 0) (
   pub asked : IsAsked K lane next J node
   pub rose : HasRisen (opened node) (faults node)
 
--- why a lane stopped at a node, by the journals at its stop and what each node is: the lane asks it, and its disk has failed since it was opened; Full and
--- ClockEnd are those of the record that the lane needs next there; nothing is refused
+-- why a lane stopped at a node, by the journals at its stop and what each node is: the lane asks it, and its disk has failed since it was opened;
+-- Full and ClockEnd are those of the record that the lane needs next there; nothing is refused
 abbrev pub IsStopBy : Shape → ℕ → (List Compact → Type 0) → (ℕ → List Record) → (ℕ → ℕ) → (ℕ → ℕ) → (ℕ → ℕ) → ℕ → NodeFault → Type 0
 IsStopBy K lane next J opened faults capacity node (Broken since) = HasFailed K lane next J opened faults node
 IsStopBy K lane next J opened faults capacity node (Refuses why) = ⊥

@@ -2,7 +2,7 @@
 use Rattle.std.specs.Prelude.{◌≡◌, ◌⊎◌, ℕ, ◌+◌, ◌*◌, ◌^◌, ◌<◌, ◌≤◌, Bool, List, ◌∷◌, ◌++◌, Contains}
 use Rattle.cbdc_types.specs.Limits.{IsWithinLimits}
 use Rattle.cbdc_model.specs.Records.{Digest, Shape, Batch, Record, Row, journal, stamp_of, last_stamp, lock_kind, finish_kind, forget_kind}
-use Rattle.cbdc_model.specs.After.{After}
+use Rattle.cbdc_model.specs.After.{After, IsFirst}
 use Rattle.cbdc_model.specs.Causes.{IsCaused}
 use Rattle.cbdc_model.specs.Clean.{Clean, IsProperCompact}
 use Rattle.cbdc_model.specs.Coins.{Output, FullTx}
@@ -50,7 +50,8 @@ abbrev pub CountedLaw : Type 0
 CountedLaw = (K : Shape) (mint : List Output) (submissions : List FullTx) (w : World) (counts : ℕ → Bool) → 0 < K.shards
     → KeptWorld K mint submissions w → KeptJournals K mint submissions (with_flights counts w)
 
--- the events that write a kept history begin no Prepare but with compact forms of proper submissions: so what is kept is what runs of such events reach
+-- the events that write a kept history begin no Prepare but with compact forms of proper submissions: so what is kept is what runs of such events
+-- reach
 abbrev pub PassLaw : Type 0
 PassLaw = (K : Shape) (mint : List Output) (submissions : List FullTx) (later : List Row) → IsKept K mint submissions later
     → EventsPass (IsProperCompact submissions) (events_of later)
@@ -64,10 +65,10 @@ abbrev pub FewLateLaw : Type 0
 FewLateLaw = (K : Shape) (mint : List Output) (submissions : List FullTx) (J : ℕ → List Record) (n : ℕ) → 0 < K.shards
     → KeptJournals K mint submissions J → last_stamp (J n) ≤ 2 ^ 62 + late_records K
 
--- no record that is caused by kept journals needs a stamp above 2^62 + 2^20
+-- no record that is caused by kept journals and is no first one needs a stamp above 2^62 + 2^20
 abbrev pub NoneRefusedLaw : Type 0
 NoneRefusedLaw = (K : Shape) (mint : List Output) (submissions : List FullTx) (J : ℕ → List Record) (n : ℕ) (r : Record) → IsWithinLimits K
-    → KeptJournals K mint submissions J → IsCaused K J n r → stamp_of r ≤ 2 ^ 62 + 2 ^ 20
+    → KeptJournals K mint submissions J → (IsFirst r → ⊥) → IsCaused K J n r → stamp_of r ≤ 2 ^ 62 + 2 ^ 20
 
 -- from any kept world where no Lock that is still to come needs a stamp above 2^62, bringing the nodes up, whatever they keep of what was in
 -- flight, and writing what is still to come leads to a kept and recovered world, with no new Prepare; whatever stamps the world has

@@ -4,7 +4,7 @@ use Rattle.std.proofs.Common.{length, All, Option, Some, None, refl, sym, ◌∙
 use Rattle.std.proofs.lemmas.Bool.Decides.{nat_tests}
 use Rattle.std.proofs.lemmas.List.Elements.{All-head, All-tail, All-cons, All-nil}
 use Rattle.cbdc_types.specs.declared.calls.Refused.{Refused}
-use Rattle.cbdc_model.specs.Records.{Digest, Header, Batch, Entry, Reply, Answered, Record, is_held, lock_of, Genesis, Lock, Finish, Forget}
+use Rattle.cbdc_model.specs.Records.{Digest, Header, Batch, Entry, Reply, Answered, Record, is_held, lock_of, Genesis, Lock, Finish, Forget, Carry}
 use Rattle.cbdc_model.specs.Slots.{Phase, slot, Idle, InLock, InFinish, InPrepare, InCommit, InDiscard}
 use Rattle.cbdc_model.specs.Status.{Status, status, has, held_inputs, finished_status, made_outputs, returned_inputs, taken_inputs, Unspent, Locked}
 use Rattle.cbdc_model.specs.Status.{Absent}
@@ -78,6 +78,11 @@ holder_in h (Genesis header hs ∷ J) x by all e =
     elim (has hs x) as (λ t. has hs x ≡ t → IsBatchOf h.shape by) [
       | true ↦ λ t. let no : Unspent ≡ Locked by = rw t at e in cc
       | false ↦ λ t. holder_in h J x by (All-tail (IsInGrammar h) (Genesis header hs) J all) (rw t at e)
+    ] refl
+holder_in h (Carry stamp header source hs numbers ∷ J) x by all e =
+    elim (has hs x) as (λ t. has hs x ≡ t → IsBatchOf h.shape by) [
+      | true ↦ λ t. let no : Unspent ≡ Locked by = rw t at e in cc
+      | false ↦ λ t. holder_in h J x by (All-tail (IsInGrammar h) (Carry stamp header source hs numbers) J all) (rw t at e)
     ] refl
 holder_in h (Lock stamp b es ∷ J) x by all e =
     elim (has (held_inputs es) x) as (λ t. has (held_inputs es) x ≡ t → IsBatchOf h.shape by) [

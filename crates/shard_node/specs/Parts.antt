@@ -36,7 +36,8 @@ pub record HasMemory {D : Type 0} {G : Ghosts D} (p : Parts D G) : Type 0 where
   pub decisions : HaveDecisions (journal_of p.node) p.decisions.items
   pub records : HasRecords p.node.log (kept_room p.node.log.header.shape (journal_of p.node))
 
--- the core stands for the journal, which is a shard's; its unfinished batches have the room that they still need, and until an append fails their memory
+-- the core stands for the journal, which is a shard's; its unfinished batches have the room that they still need, and until an append fails their
+-- memory
 pub record IsShardOf {D : Type 0} {G : Ghosts D} (p : Parts D G) : Type 0 where
   pub node : IsNode IsShardHeader p.node
   pub header : p.node.core.header ≡ p.node.log.header

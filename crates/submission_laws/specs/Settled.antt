@@ -14,8 +14,8 @@ use Rattle.printed_lines.specs.Runs.{lane_at, IsReport}
 use Rattle.submission_laws.specs.Sent.{IsSent, place_at, IsNewlyPrepared}
 use Rattle.submission_laws.specs.Replied.{IsReplied}
 
--- a sound submission has its place in a Prepare of its lane that came newly, and an outcome by the shards' replies, which the lane's coordinator wrote
--- down; these are what is told of it
+-- a sound submission has its place in a Prepare of its lane that came newly, and an outcome by the shards' replies, which the lane's coordinator
+-- wrote down; these are what is told of it
 pub record IsSubmissionSettled (K : Shape) (verdicts : VerdictsOf) (files : List (List FullTx)) (E X : ℕ → List Record) (k : ℕ) (file : List FullTx)
     (j : ℕ) (t : FullTx) : Type 0 where
   pub place : PlaceIn

@@ -76,7 +76,8 @@ IsSentFrom verdicts file k = (t : FullTx) × Contains file t × IsSoundTx t (ver
 abbrev pub AreSentFrom : VerdictsOf → List FullTx → List (Vec CompactTx) → Type 0
 AreSentFrom verdicts file lanes = (lane : ℕ) (list : Vec CompactTx) → slice_get lanes lane ≡ Some list → All (IsSentFrom verdicts file) list.items
 
--- what is said of the submission at place j: the first reason to refuse it; or it is sound, and goes to lane j modulo the lanes, behind the sound ones before it
+-- what is said of the submission at place j: the first reason to refuse it; or it is sound, and goes to lane j modulo the lanes, behind the sound
+-- ones before it
 abbrev pub IsSaid : Shape → VerdictsOf → List FullTx → ℕ → FullTx → Judgement → Type 0
 IsSaid K verdicts file j t (Refused r) = IsFirstRefusal t (verdicts (tx_id t)) r
 IsSaid K verdicts file j t (Sound lane place) =

@@ -2,7 +2,7 @@
 use Rattle.std.proofs.Common.{◌≡◌, ◌⊎◌, inl, inr, ℕ, ◌+◌, ◌≤◌, true, false, ◌&&◌, ◌==◌, List, [], ◌∷◌, ◌++◌, length, Some, is_some, refl, sym, ap}
 use Rattle.std.proofs.Common.{◌∙◌, subst, arith}
 use Rattle.cbdc_model.specs.Records.{Header, Batch, Compact, Outcome, Record, record_of, kind_of, is_of, same_batch, txs_of, outcomes_of, Genesis}
-use Rattle.cbdc_model.specs.Records.{Start, Prepare, Commit}
+use Rattle.cbdc_model.specs.Records.{Start, Prepare, Commit, Carry, CarryStart}
 use Rattle.cbdc_model.specs.Slots.{Phase, slot, Idle, InLock, InFinish, InPrepare, InCommit, InDiscard}
 use Rattle.cbdc_model.specs.Grammar.{IsInGrammar}
 use Rattle.cbdc_model.specs.After.{IsFirst as BeginsAs, After, IsJournal}
@@ -67,7 +67,9 @@ module _ (h : Header) (J : List Record) (first : AllFirst J) where
 
 begins : (r : Record) → BeginsAs r → IsFirst r
 begins (Genesis header hs) f = tt
+begins (Carry stamp header source hs numbers) f = tt
 begins (Start header) f = tt
+begins (CarryStart stamp header source numbers) f = tt
 begins other f = f
 
 some_same : (q r : Record) → Some q ≡ Some r → q ≡ r
@@ -116,7 +118,9 @@ module _ (h : Header) (q : Record) (past : List Record) where
 
     matches_next : (r : Record) → Step r → Matches (r ∷ J) b
     matches_next (Genesis header hs) next = absurd next
+    matches_next (Carry stamp header source hs numbers) next = absurd next
     matches_next (Start header) next = absurd next
+    matches_next (CarryStart stamp header source numbers) next = absurd next
     matches_next (Prepare stamp c txs) next = matches_prepare stamp c txs next
     matches_next (Commit stamp c os) next = matches_commit stamp c os next
     matches_next other next = aside other refl refl

@@ -1,5 +1,5 @@
--- A wave of lanes at the nodes of a ledger, as what runs it sees it: each node from the making of its lock to its closing, and each lane from its first call to
--- its last.
+-- A wave of lanes at the nodes of a ledger, as what runs it sees it: each node from the making of its lock to its closing, and each lane from its
+-- first call to its last.
 use Rattle.std.specs.Prelude.{◌≡◌, ◌⊎◌, ℕ, ◌*◌, ◌<◌, ◌≤◌, List, [], length, None}
 use Rattle.cbdc_types.specs.Limits.{IsWithinLimits}
 use Rattle.cbdc_model.specs.Records.{Shape}
