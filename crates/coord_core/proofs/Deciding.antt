@@ -228,7 +228,7 @@ all_shards locks shards k (t ∷ ts) = ap (λ os. outcome locks k 0 shards ∷ o
 pub decided_is : (K : Shape) (txs : List Compact) (replies : List ShardReplies) → AreRepliesTo K txs replies
     → combined_outcomes (masks_of K.shards txs) replies ≡ decided K txs replies
 decided_is K txs replies are =
-    let locks : ℕ → List Answered = λ s. answered_with (part K.shards s 0 txs) (replies_in (replies_at replies s)) in
+    let locks : ℕ → List Answered = λ s. answered_with (part K s 0 txs) (replies_in (replies_at replies s)) in
     combined_by K.shards K.shards 0 K.shards locks txs replies (omega arith) are.rising (λ i le lt. refl) (λ i le lt. are.each i lt)
     ∙ all_shards locks K.shards 0 txs
 

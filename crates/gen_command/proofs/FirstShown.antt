@@ -59,14 +59,14 @@ module _ (shards s : ℕ) where
   ]
 
   on_here : (K : Shape) → K.shards ≡ shards → (xs : List Digest) → AreHere K (K.coordinators + s) (on_shard shards s xs)
-  on_here K is [] = All-nil (λ x. shard_node K (shard_of K.shards x) ≡ K.coordinators + s)
+  on_here K is [] = All-nil (λ x. shard_node K (shard_of K x) ≡ K.coordinators + s)
   on_here K is (x ∷ xs) = go (shard_of shards x == s) refl (on_here K is xs)
     where
       go : (b : Bool) → (shard_of shards x == s) ≡ b → AreHere K (K.coordinators + s) (on_shard shards s xs)
-          → All (λ x. shard_node K (shard_of K.shards x) ≡ K.coordinators + s) (if b then x ∷ on_shard shards s xs else on_shard shards s xs)
+          → All (λ x. shard_node K (shard_of K x) ≡ K.coordinators + s) (if b then x ∷ on_shard shards s xs else on_shard shards s xs)
       go true t rest =
           let same : shard_of shards x ≡ s = grind (arith, t) in
-          All-cons (λ x. shard_node K (shard_of K.shards x) ≡ K.coordinators + s) x (on_shard shards s xs)
+          All-cons (λ x. shard_node K (shard_of K x) ≡ K.coordinators + s) x (on_shard shards s xs)
           (ap (λ m. K.coordinators + shard_of m x) is ∙ ap (λ m. K.coordinators + m) same) rest
       go false t rest = rest
 
@@ -78,13 +78,13 @@ module _ (K : Shape) (mint : List Output) (within : IsWithinLimits K) (few : len
       go : (b : Bool) → nat_lt n K.coordinators ≡ b
           → IsJournal (header_of K (genesis_id mint) n)
           ((if b then Start (header_of K (genesis_id mint) n)
-          else Genesis (header_of K (genesis_id mint) n) (on_shard K.shards (n - K.coordinators) (genesis_hashes mint))) ∷ [])
+          else Genesis (header_of K (genesis_id mint) n) (on_shard K (n - K.coordinators) (genesis_hashes mint))) ∷ [])
       go true t = (tt, ((refl, id_is_hash mint, ltb-true n K.coordinators t), refl))
       go false t =
           let high : K.coordinators ≤ n = ltb-false n K.coordinators t in
           let place : K.coordinators + (n - K.coordinators) ≡ n = omega (arith, high) in
           let long = made_length (genesis_id mint) 0 mint in
-          let short = on_length K.shards (n - K.coordinators) (genesis_hashes mint) in (
+          let short = on_length K (n - K.coordinators) (genesis_hashes mint) in (
             tt,
             (
               (
@@ -92,8 +92,8 @@ module _ (K : Shape) (mint : List Output) (within : IsWithinLimits K) (few : len
                 id_is_hash mint,
                 (high, omega (arith, inside)),
                 omega (arith, long, short, few),
-                on_all K.shards (n - K.coordinators) IsHash (genesis_hashes mint) (made_hashes (genesis_id mint) 0 mint),
-                subst (λ m. AreHere K m (on_shard K.shards (n - K.coordinators) (genesis_hashes mint))) place
+                on_all K (n - K.coordinators) IsHash (genesis_hashes mint) (made_hashes (genesis_id mint) 0 mint),
+                subst (λ m. AreHere K m (on_shard K (n - K.coordinators) (genesis_hashes mint))) place
                     (on_here K.shards (n - K.coordinators) K refl (genesis_hashes mint)),
               ),
               refl,

@@ -53,14 +53,14 @@ pub first_size : (K : Shape) (mint : List Output) (n : ℕ) → IsWithinLimits K
 first_size K mint n limits few inside =
     let h : Header = header_of K (genesis_id mint) n in
     let fits : FitsHeader h = record { node = omega (arith, inside, limits.coordinators, limits.shards); shape = limits; genesis = id_len mint } in
-    let hs : List Digest = on_shard K.shards (n - K.coordinators) (genesis_hashes mint) in
+    let hs : List Digest = on_shard K (n - K.coordinators) (genesis_hashes mint) in
     let few_here : length hs ≤ 1000000 = omega (
       arith,
-      on_length K.shards (n - K.coordinators) (genesis_hashes mint),
+      on_length K (n - K.coordinators) (genesis_hashes mint),
       made_length (genesis_id mint) 0 mint,
       few,
     ) in
-    let all_here = on_all FitsHash K.shards (n - K.coordinators) (genesis_hashes mint) (made_hashes (genesis_id mint) 0 mint) in
+    let all_here = on_all FitsHash K (n - K.coordinators) (genesis_hashes mint) (made_hashes (genesis_id mint) 0 mint) in
     elim (nat_lt n K.coordinators) as (λ (b : Bool). first_need (if b then Start h else Genesis h hs)
     ≡ size_of (if b then Start h else Genesis h hs) + 1) [
       | true ↦ omega (arith, body_length (Start h) fits)

@@ -98,7 +98,7 @@ finished_by K J b s told own home shards txs outcomes ds o h n t u d one two sam
     let outcomes_is : outcomes ≡ outcomes_of (J (home_of K b.lane)) b = u ∙ ap (λ l. outcomes_of l b) h in
     let ds_is : ds ≡ decisions_in (record_of 3 (J (shard_node K s)) b) = d ∙ ap (λ l. decisions_in (record_of 3 l b)) o in
     let all_is : decisions outcomes (part shards s 0 txs)
-    ≡ decisions (outcomes_of (J (home_of K b.lane)) b) (part K.shards s 0 (txs_of (J (home_of K b.lane)) b)) =
+    ≡ decisions (outcomes_of (J (home_of K b.lane)) b) (part K s 0 (txs_of (J (home_of K b.lane)) b)) =
     λ i. decisions (outcomes_is i) (part (n i) s 0 (txs_is i)) in (
       λ y. record {
         one_lock = subst (λ l. count_of 2 l b ≡ 1) o one;

@@ -45,7 +45,7 @@ module _ {D : Type 0} (K : Shape) (logs shards : List (NodeOf D)) where
       → told_lines xs (map (status_among shards) xs) ≡ status_lines K (journals_at K logs shards) xs
   lines_are count [] = refl
   lines_are count (x ∷ xs) =
-      let place : ℕ = shard_of K.shards x in
+      let place : ℕ = shard_of K x in
       let low : K.coordinators ≤ K.coordinators + place = omega arith in
       let behind : K.coordinators + place - K.coordinators ≡ place = omega arith in
       let journals : journals_at K logs shards (K.coordinators + place)

@@ -160,7 +160,7 @@ module _ (K : Shape) (minting : Minted) (P : Compact → Type 0) (some : 0 < K.s
         let next : Next K (shard_node K s) rest (Lock stamp c es) =
         ((lists_of K minting P some later kept).each (shard_node K s) newer rest (Lock stamp c es) e h).0 in
         let is : lock_of (J (shard_node K s)) b ≡ es = ap entries_in found in
-        let whole : entries es ≡ part K.shards s 0 (txs_of (J (home_of K b.lane)) b) =
+        let whole : entries es ≡ part K s 0 (txs_of (J (home_of K b.lane)) b) =
         ap entries (sym is) ∙ (all_structure K minting P some later kept).lock_part s b (ap is_some found) in
         record {
           newer = newer;
@@ -212,7 +212,7 @@ module _ (K : Shape) (minting : Minted) (P : Compact → Type 0) (some : 0 < K.s
 
     -- by the Lock that stands, if one does
     replies : (s : ℕ) → HasStandingLock K J p.batch s
-        → is_some (reply_of K J p s) ≡ not (is_empty (on_shard K.shards s c.inputs) && is_empty (on_shard K.shards s c.outputs))
+        → is_some (reply_of K J p s) ≡ not (is_empty (on_shard K s c.inputs) && is_empty (on_shard K s c.outputs))
     replies s l = ap (λ es. is_some (reply_at es p.at)) l.replies
         ∙ replied l.past p.batch K.shards s (txs_of (J (home_of K p.batch.lane)) p.batch) [] 0 p.at p.at c holds (omega arith)
 
@@ -226,8 +226,7 @@ module _ (K : Shape) (minting : Minted) (P : Compact → Type 0) (some : 0 < K.s
     only s low f = (
       low,
       elim (has_lock (J (shard_node K s)) p.batch) as
-          (λ d. has_lock (J (shard_node K s)) p.batch ≡ d
-          → (is_empty (on_shard K.shards s c.inputs) && is_empty (on_shard K.shards s c.outputs)) ≡ false) [
+          (λ d. has_lock (J (shard_node K s)) p.batch ≡ d → (is_empty (on_shard K s c.inputs) && is_empty (on_shard K s c.outputs)) ≡ false) [
             | true ↦ λ e. turned _ (sym (replies s (locked s p.batch e)) ∙ f)
             | false ↦ λ e. absurd (true_false (is_some (reply_of K J p s)) f
                 (no_reply (lock_of (J (shard_node K s)) p.batch) (no_lock (J (shard_node K s)) p.batch e)))

@@ -10,9 +10,9 @@ use Rattle.plain_check.proofs.alikes.+are_decided.Goals as goal
 
 pub returns-then-are_elsewhere-2 : goal.returns-then-are_elsewhere-2
 returns-then-are_elsewhere-2 t c =
-    let none_in : is_empty (on_shard c.args.shards c.args.shard c.in-Some.t.now.inputs) ≡ true =
+    let none_in : is_empty (on_shard c.args c.args.shard c.in-Some.t.now.inputs) ≡ true =
     grind (arith, common_steps, c.if-are_elsewhere.true, c.are_elsewhere.ensures, c.as_slice.ensures) in
-    let none_out : is_empty (on_shard c.args.shards c.args.shard c.in-Some.t.now.outputs) ≡ true =
+    let none_out : is_empty (on_shard c.args c.args.shard c.in-Some.t.now.outputs) ≡ true =
     grind (arith, common_steps, c.if-are_elsewhere-2.true, c.are_elsewhere-then-are_elsewhere.ensures, c.as_slice-then-are_elsewhere.ensures) in
     decides_elsewhere c.args.shards c.args.shard c.args.txs.now c.in-Some.t.now c.in-Some.others.now c.args.outcomes.now c.behind.result.now
     c.args.ds.now c.are_decided.result
@@ -20,8 +20,8 @@ returns-then-are_elsewhere-2 t c =
 
 pub returns-then-d-won_at : goal.returns-then-d-won_at
 returns-then-d-won_at t c =
-    let some : (is_empty (on_shard c.args.shards c.args.shard c.in-Some.t.now.inputs)
-    && is_empty (on_shard c.args.shards c.args.shard c.in-Some.t.now.outputs)) ≡ false = elim c.else-are_elsewhere.branch [
+    let some : (is_empty (on_shard c.args c.args.shard c.in-Some.t.now.inputs) && is_empty (on_shard c.args c.args.shard c.in-Some.t.now.outputs))
+    ≡ false = elim c.else-are_elsewhere.branch [
       | else-are_elsewhere-via-then-are_elsewhere+else-are_elsewhere-2 w ↦
           grind (arith, common_steps, w.if-are_elsewhere-2.false, w.are_elsewhere-then-are_elsewhere.ensures, w.as_slice-then-are_elsewhere.ensures)
       | else-are_elsewhere-via-else-are_elsewhere w ↦
@@ -36,8 +36,8 @@ returns-then-d-won_at t c =
 
 pub returns-else-d-won_at : goal.returns-else-d-won_at
 returns-else-d-won_at t c =
-    let some : (is_empty (on_shard c.args.shards c.args.shard c.in-Some.t.now.inputs)
-    && is_empty (on_shard c.args.shards c.args.shard c.in-Some.t.now.outputs)) ≡ false = elim c.else-are_elsewhere.branch [
+    let some : (is_empty (on_shard c.args c.args.shard c.in-Some.t.now.inputs) && is_empty (on_shard c.args c.args.shard c.in-Some.t.now.outputs))
+    ≡ false = elim c.else-are_elsewhere.branch [
       | else-are_elsewhere-via-then-are_elsewhere+else-are_elsewhere-2 w ↦
           grind (arith, common_steps, w.if-are_elsewhere-2.false, w.are_elsewhere-then-are_elsewhere.ensures, w.as_slice-then-are_elsewhere.ensures)
       | else-are_elsewhere-via-else-are_elsewhere w ↦
