@@ -31,7 +31,7 @@ fn is_part_of(shards: u32, shard: u32, place: u64, txs: &[CompactTx], entries: &
 /// Whether entries are the transactions' part at this node, where it is a shard.
 pub fn is_own_part(shape: &Shape, node: NodeId, txs: &[CompactTx], entries: &[Entry]) -> bool
     ensures { IsTrue result
-        ↔ ((s : ℕ) → node ≡ shard_node shape.now s → entries.now ≡ part shape.now.shards s 0 txs.now) }
+        ↔ ((s : ℕ) → node ≡ shard_node shape.now s → entries.now ≡ part shape.now s 0 txs.now) }
 {
     if node.0 < shape.coordinators() {
         return true;
