@@ -37,13 +37,13 @@ abbrev hashes_below : Shape → (ℕ → List Record) → ℕ → List Digest
 hashes_below K X zero = []
 hashes_below K X (suc s) = hashes_below K X s ++ first_hashes (X (shard_node K s))
 
-on_both : (shards s : ℕ) (xs ys : List Digest) → on_shard shards s (xs ++ ys) ≡ on_shard shards s xs ++ on_shard shards s ys
-on_both shards s [] ys = refl
-on_both shards s (x ∷ xs) ys = elim (shard_of shards x == s) as
-    (λ c. (if c then x ∷ on_shard shards s (xs ++ ys) else on_shard shards s (xs ++ ys))
-    ≡ (if c then x ∷ on_shard shards s xs else on_shard shards s xs) ++ on_shard shards s ys) [
-      | true ↦ ap (λ l. x ∷ l) (on_both shards s xs ys)
-      | false ↦ on_both shards s xs ys
+on_both : (K : Shape) (s : ℕ) (xs ys : List Digest) → on_shard K s (xs ++ ys) ≡ on_shard K s xs ++ on_shard K s ys
+on_both K s [] ys = refl
+on_both K s (x ∷ xs) ys = elim (shard_of K x == s) as
+    (λ c. (if c then x ∷ on_shard K s (xs ++ ys) else on_shard K s (xs ++ ys))
+    ≡ (if c then x ∷ on_shard K s xs else on_shard K s xs) ++ on_shard K s ys) [
+      | true ↦ ap (λ l. x ∷ l) (on_both K s xs ys)
+      | false ↦ on_both K s xs ys
     ]
 
 here_is : (K : Shape) (s : ℕ) (x : Digest) → shard_node K (shard_of K x) ≡ shard_node K s → (shard_of K x == s) ≡ true
@@ -78,13 +78,13 @@ module _ (K : Shape) (X : ℕ → List Record) (here : (s : ℕ) → s < K.shard
   none_below : (s n : ℕ) → n ≤ s → n ≤ K.shards → on_shard K s (hashes_below K X n) ≡ []
   none_below s zero le low = refl
   none_below s (suc n) le low =
-      on_both K.shards s (hashes_below K X n) (first_hashes (X (shard_node K n)))
+      on_both K s (hashes_below K X n) (first_hashes (X (shard_node K n)))
       ∙ ap (λ l. l ++ on_shard K s (first_hashes (X (shard_node K n)))) (none_below s n (omega (arith, le)) (omega (arith, low)))
       ∙ none_here K s n (first_hashes (X (shard_node K n))) (λ e. absurd (omega (arith, e, le))) (here n (omega (arith, low)))
 
   all_below : (s n : ℕ) → s < n → n ≤ K.shards → on_shard K s (hashes_below K X n) ≡ first_hashes (X (shard_node K s))
   all_below s zero lt low = absurd (omega (arith, lt))
-  all_below s (suc n) lt low = on_both K.shards s (hashes_below K X n) (first_hashes (X (shard_node K n))) ∙ go (all_below s n) (eqb_tells s n)
+  all_below s (suc n) lt low = on_both K s (hashes_below K X n) (first_hashes (X (shard_node K n))) ∙ go (all_below s n) (eqb_tells s n)
     where
       go : (s < n → n ≤ K.shards → on_shard K s (hashes_below K X n) ≡ first_hashes (X (shard_node K s)))
           → (((s == n) ≡ true) × (s ≡ n)) ⊎ (((s == n) ≡ false) × (s ≢ n))

@@ -54,7 +54,7 @@ fn is_part_at(shape: &Shape, node: u32, es: &[Answered], txs: &[CompactTx]) -> b
     if node < shape.coordinators() {
         return true;
     }
-    is_part_from(shape.shards(), node - shape.coordinators(), 0, txs, es)
+    is_part_from(shape, node - shape.coordinators(), 0, txs, es)
 }
 
 // Whether a Lock is caused.

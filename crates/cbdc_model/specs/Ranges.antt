@@ -6,14 +6,9 @@ use Rattle.cbdc_model.specs.Records.{Digest, Shape, Compact, Entry, Record, Row,
 unfoldable pub first_byte : Digest → ℕ
 first_byte x = slice_index x 0 % 256
 
--- the first two bytes of a hash as one number
-unfoldable pub first_two : Digest → ℕ
-first_two x = first_byte x * 256 + slice_index x 1 % 256
-
--- the shard that holds the hash, for S shards: in version 1 floor(b S / 256) for its first byte b, so each shard has 256 / S first bytes, rounded
--- up or down; from version 2 on floor((256 b + c) S / 65536) for its first two bytes b and c. For S a power of two up to 64 both are the same
+-- the shard that holds the hash: floor(b S / 256) for its first byte b and S shards, so each shard has 256 / S first bytes, rounded up or down
 unfoldable pub shard_of : Shape → Digest → ℕ
-shard_of K x = if K.version == 1 then first_byte x * K.shards / 256 else first_two x * K.shards / 65536
+shard_of K x = first_byte x * K.shards / 256
 
 -- how many nodes a ledger has: its coordinators, then its shards
 abbrev pub node_count : Shape → ℕ

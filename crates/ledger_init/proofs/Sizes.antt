@@ -15,20 +15,20 @@ use Rattle.record_log.proofs.Records.{FitsHeader}
 use Rattle.rack_ledgers.specs.First.{first_need}
 use Rattle.ledger_init.specs.Made.{first_record_of}
 
-on_length : (shards s : ℕ) (xs : List Digest) → length (on_shard shards s xs) ≤ length xs
-on_length shards s [] = omega arith
-on_length shards s (x ∷ xs) = elim (shard_of shards x == s) as
-    (λ c. length (if c then x ∷ on_shard shards s xs else on_shard shards s xs) ≤ length (x ∷ xs)) [
-      | true ↦ omega (arith, on_length shards s xs)
-      | false ↦ omega (arith, on_length shards s xs)
+on_length : (K : Shape) (s : ℕ) (xs : List Digest) → length (on_shard K s xs) ≤ length xs
+on_length K s [] = omega arith
+on_length K s (x ∷ xs) = elim (shard_of K x == s) as
+    (λ c. length (if c then x ∷ on_shard K s xs else on_shard K s xs) ≤ length (x ∷ xs)) [
+      | true ↦ omega (arith, on_length K s xs)
+      | false ↦ omega (arith, on_length K s xs)
     ]
 
-on_all : (Q : Digest → Type 0) (shards s : ℕ) (xs : List Digest) → AllByRecursion Q xs → AllByRecursion Q (on_shard shards s xs)
-on_all Q shards s [] h = tt
-on_all Q shards s (x ∷ xs) h = elim (shard_of shards x == s) as
-    (λ c. AllByRecursion Q (if c then x ∷ on_shard shards s xs else on_shard shards s xs)) [
-      | true ↦ (h.0, on_all Q shards s xs h.1)
-      | false ↦ on_all Q shards s xs h.1
+on_all : (Q : Digest → Type 0) (K : Shape) (s : ℕ) (xs : List Digest) → AllByRecursion Q xs → AllByRecursion Q (on_shard K s xs)
+on_all Q K s [] h = tt
+on_all Q K s (x ∷ xs) h = elim (shard_of K x == s) as
+    (λ c. AllByRecursion Q (if c then x ∷ on_shard K s xs else on_shard K s xs)) [
+      | true ↦ (h.0, on_all Q K s xs h.1)
+      | false ↦ on_all Q K s xs h.1
     ]
 
 coin_len : (c : Coin) → length (coin_hash c) ≡ 32

@@ -1,8 +1,8 @@
 -- What a journal without a record finds of it, and numbers of shards.
-use Rattle.std.proofs.Common.{◌≡◌, ℕ, ◌+◌, ◌*◌, ◌/◌, ◌%◌, ◌<◌, ◌==◌, if◌then◌else◌, Bool, true, false, List, [], ◌∷◌, Option, Some, None, is_some}
-use Rattle.std.proofs.Common.{slice_index, refl, ap, arith, mul-lt-mul_of_pos_right, div-lt_iff_lt-mul, mod-lt, lit<}
+use Rattle.std.proofs.Common.{◌≡◌, ℕ, ◌*◌, ◌/◌, ◌%◌, ◌<◌, ◌==◌, Bool, true, false, List, [], ◌∷◌, Option, Some, None, is_some, slice_index, refl, ap}
+use Rattle.std.proofs.Common.{arith, mul-lt-mul_of_pos_right, div-lt_iff_lt-mul, mod-lt, lit<}
 use Rattle.cbdc_model.specs.Outcomes.{won_txs}
-use Rattle.cbdc_model.specs.Ranges.{shard_of, first_byte, first_two}
+use Rattle.cbdc_model.specs.Ranges.{shard_of, first_byte}
 use Rattle.cbdc_model.specs.Records.{Digest, Shape, record_of, entries_in, outcomes_in, Batch, Compact, Record, lock_of, outcomes_of}
 use Rattle.ledger_laws.proofs.Next.{has_lock, has_commit}
 
@@ -41,21 +41,6 @@ below_shards n shards lt h =
     let k : n * shards < shards * 256 = omega (arith, m) in
     (div-lt_iff_lt-mul {k = 256} {x = n * shards} {y = shards} (lit< tt)).1 k
 
-below_many : (n shards : ℕ) → n < 65536 → 0 < shards → n * shards / 65536 < shards
-below_many n shards lt h =
-    let m : n * shards < 65536 * shards = mul-lt-mul_of_pos_right lt h in
-    let k : n * shards < shards * 65536 = omega (arith, m) in
-    (div-lt_iff_lt-mul {k = 65536} {x = n * shards} {y = shards} (lit< tt)).1 k
-
-below_two : (b c : ℕ) → b < 256 → c < 256 → b * 256 + c < 65536
-below_two b c lb lc = omega arith
-
-by_rule : (v : Bool) (b c shards : ℕ) → b < 256 → c < 256 → 0 < shards → (if v then b * shards / 256 else (b * 256 + c) * shards / 65536) < shards
-by_rule true b c shards lb lc h = below_shards b shards lb h
-by_rule false b c shards lb lc h = below_many (b * 256 + c) shards (below_two b c lb lc) h
-
 pub shard_of-lt : (K : Shape) (x : Digest) → 0 < K.shards → shard_of K x < K.shards
-unfolding shard_of first_byte first_two
-shard_of-lt K x h =
-    by_rule (K.version == 1) (slice_index x 0 % 256) (slice_index x 1 % 256) K.shards (mod-lt (slice_index x 0) {m = 256} (lit< tt))
-    (mod-lt (slice_index x 1) {m = 256} (lit< tt)) h
+unfolding shard_of first_byte
+shard_of-lt K x h = below_shards (slice_index x 0 % 256) K.shards (mod-lt (slice_index x 0) {m = 256} (lit< tt)) h

@@ -74,9 +74,9 @@ below_shards n shards lt h =
     let k : n * shards < shards * 256 = omega (arith, m) in
     (div-lt_iff_lt-mul {k = 256} {x = n * shards} {y = shards} (lit< tt)).1 k
 
-shard_of-lt : (shards : ℕ) (x : Digest) → 0 < shards → shard_of shards x < shards
+shard_of-lt : (K : Shape) (x : Digest) → 0 < K.shards → shard_of K x < K.shards
 unfolding shard_of first_byte
-shard_of-lt shards x h = below_shards (slice_index x 0 % 256) shards (mod-lt (slice_index x 0) {m = 256} (lit< tt)) h
+shard_of-lt K x h = below_shards (slice_index x 0 % 256) K.shards (mod-lt (slice_index x 0) {m = 256} (lit< tt)) h
 
 -- an unspent hash is named by its shard
 is_named : (K : Shape) (J : ℕ → List Record) (x : Digest) → 0 < K.shards → IsUnspent K J x → has (named_below K J K.shards) x ≡ true

@@ -24,7 +24,7 @@ fn is_part_at(shape: &Shape, node: NodeId, es: &[Answered], txs: &[CompactTx]) -
     if node.0 < shape.coordinators() {
         return true;
     }
-    is_part_from(shape.shards(), node.0 - shape.coordinators(), 0, txs, es)
+    is_part_from(shape, node.0 - shape.coordinators(), 0, txs, es)
 }
 
 // Whether a Lock is caused.

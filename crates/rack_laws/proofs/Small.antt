@@ -145,26 +145,26 @@ all_sent sound lanes k n (t ∷ file) =
 -- ---- a batch
 
 -- hashes on a shard are no more than all
-on_few : (shards s : ℕ) (xs : List Digest) → length (on_shard shards s xs) ≤ length xs
-on_few shards s [] = omega arith
-on_few shards s (x ∷ xs) = elim (shard_of shards x == s) as
-    (λ b. length (if b then x ∷ on_shard shards s xs else on_shard shards s xs) ≤ length (x ∷ xs)) [
-      | true ↦ omega (arith, on_few shards s xs)
-      | false ↦ omega (arith, on_few shards s xs)
+on_few : (K : Shape) (s : ℕ) (xs : List Digest) → length (on_shard K s xs) ≤ length xs
+on_few K s [] = omega arith
+on_few K s (x ∷ xs) = elim (shard_of K x == s) as
+    (λ b. length (if b then x ∷ on_shard K s xs else on_shard K s xs) ≤ length (x ∷ xs)) [
+      | true ↦ omega (arith, on_few K s xs)
+      | false ↦ omega (arith, on_few K s xs)
     ]
 
 -- a part has no more entries than transactions, each of 201 bytes at most
-part_few : (shards s k : ℕ) (txs : List Compact) → AreFew txs
-    → (length (part shards s k txs) ≤ length txs) × (total largest_answered (part shards s k txs) ≤ 201 * length (part shards s k txs))
-part_few shards s k [] few = (omega arith, omega arith)
-part_few shards s k (t ∷ txs) few =
-    let rest = part_few shards s (suc k) txs few.1 in
-    elim (is_empty (on_shard shards s t.inputs) && is_empty (on_shard shards s t.outputs)) as
-    (λ b. (length (if b then part shards s (suc k) txs else entry_of shards s k t ∷ part shards s (suc k) txs) ≤ length (t ∷ txs))
-    × (total largest_answered (if b then part shards s (suc k) txs else entry_of shards s k t ∷ part shards s (suc k) txs)
-    ≤ 201 * length (if b then part shards s (suc k) txs else entry_of shards s k t ∷ part shards s (suc k) txs))) [
+part_few : (K : Shape) (s k : ℕ) (txs : List Compact) → AreFew txs
+    → (length (part K s k txs) ≤ length txs) × (total largest_answered (part K s k txs) ≤ 201 * length (part K s k txs))
+part_few K s k [] few = (omega arith, omega arith)
+part_few K s k (t ∷ txs) few =
+    let rest = part_few K s (suc k) txs few.1 in
+    elim (is_empty (on_shard K s t.inputs) && is_empty (on_shard K s t.outputs)) as
+    (λ b. (length (if b then part K s (suc k) txs else entry_of K s k t ∷ part K s (suc k) txs) ≤ length (t ∷ txs))
+    × (total largest_answered (if b then part K s (suc k) txs else entry_of K s k t ∷ part K s (suc k) txs)
+    ≤ 201 * length (if b then part K s (suc k) txs else entry_of K s k t ∷ part K s (suc k) txs))) [
       | true ↦ (omega (arith, rest.0), rest.1)
-      | false ↦ (omega (arith, rest.0), omega (arith, rest.1, few.0, on_few shards s t.inputs, on_few shards s t.outputs))
+      | false ↦ (omega (arith, rest.0), omega (arith, rest.1, few.0, on_few K s t.inputs, on_few K s t.outputs))
     ]
 
 sizes_few : (txs : List Compact) → AreFew txs → total compact_size txs ≤ 144 * length txs
@@ -211,7 +211,7 @@ module _ (K : Shape) (lane : ℕ) (txs : List Compact) (few : AreFew txs) (some 
       (elsewhere n node 3 (42 + length (e ∷ es)) last apart (elsewhere n node 4 34 [] apart refl))
 
   shard_most : (n node s : ℕ) → weight bytes n (coming_at_shard node (part K s 0 txs)) ≤ 320 * length txs
-  shard_most n node s = go (part K s 0 txs) (part_few K.shards s 0 txs few)
+  shard_most n node s = go (part K s 0 txs) (part_few K s 0 txs few)
     where
       go : (es : List Entry) → (length es ≤ length txs) × (total largest_answered es ≤ 201 * length es)
           → weight bytes n (coming_at_shard node es) ≤ 320 * length txs
@@ -400,7 +400,7 @@ first_used K m n = go (nat_lt n K.coordinators) refl
       omega (
         arith,
         used_one (Genesis (header_of K m.id n) (on_shard K (n - K.coordinators) m.hashes)),
-        on_few K.shards (n - K.coordinators) m.hashes,
+        on_few K (n - K.coordinators) m.hashes,
       ),
     )
 
