@@ -32,7 +32,7 @@ use Rattle.lane_laws.proofs.Tellings.{Wrote, Stood, Stopped, FaultBy, told_ok, t
 use Rattle.lane_laws.proofs.Asked.{call_step}
 
 pub concerned_is : (K : Shape) (txs : List Compact) (s : ℕ) → Concerned K txs s → is_concerned K txs s ≡ true
-concerned_is K txs s c = numbers s K.shards (is_no_part (part K.shards s 0 txs)) c.0 c.1
+concerned_is K txs s c = numbers s K.shards (is_no_part (part K s 0 txs)) c.0 c.1
   where
     numbers : (s n : ℕ) (a : Bool) → s < n → a ≡ false → (nat_lt s n && not a) ≡ true
     numbers s n a lt h = grind (arith, h)
@@ -160,11 +160,11 @@ module _ (K : Shape) (lane number : ℕ) (txs : List Compact) where
 
   -- what they have of Lock, by the replies
   pub record LooksLock (rs : List ShardReplies) (shards : ℕ → Sight) (s : ℕ) : Type 0 where
-    pub entries_are : entries_in (record_of 2 (shards s).seen named_batch) ≡ answered_with (part K.shards s 0 txs) (replies_in (replies_at rs s))
+    pub entries_are : entries_in (record_of 2 (shards s).seen named_batch) ≡ answered_with (part K s 0 txs) (replies_in (replies_at rs s))
     pub stamp_is : stamp_in (record_of 2 (shards s).seen named_batch) ≡ reply_stamp (replies_at rs s)
     pub some : is_concerned K txs s ≡ true → is_some (record_of 2 (shards s).seen named_batch) ≡ true
-    pub part_is : is_concerned K txs s ≡ true → entries (lock_of (shards s).seen named_batch) ≡ part K.shards s 0 txs
-    pub replied : s < K.shards → length (replies_in (replies_at rs s)) ≡ length (part K.shards s 0 txs)
+    pub part_is : is_concerned K txs s ≡ true → entries (lock_of (shards s).seen named_batch) ≡ part K s 0 txs
+    pub replied : s < K.shards → length (replies_in (replies_at rs s)) ≡ length (part K s 0 txs)
 
 module _ (K : Shape) (pieces : List (List Compact)) (alone : Bool) (lane number : ℕ) (home : home_of K lane < K.coordinators) (txs : List Compact)
   where

@@ -53,7 +53,7 @@ module _ (K : Shape) (minting : Minted) (P : Compact → Type 0) where
   -- a mint's first records say nothing of a lane
   mint_says : (n lane : ℕ) → is_in_lane lane (first_record K minting n) ≡ true → ⊥
   mint_says n lane h = elim (nat_lt n K.coordinators) as (λ c. is_in_lane lane (if c then Start (header_of K minting.id n)
-      else Genesis (header_of K minting.id n) (on_shard K.shards (n - K.coordinators) minting.hashes)) ≡ true → ⊥) [
+      else Genesis (header_of K minting.id n) (on_shard K (n - K.coordinators) minting.hashes)) ≡ true → ⊥) [
         | true ↦ λ h. cc
         | false ↦ λ h. cc
       ] h

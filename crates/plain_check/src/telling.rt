@@ -59,7 +59,7 @@ fn put_status(
 {
     let own = journal_at(
         journals,
-        shape.coordinators() + shard_of(hash, shape.shards()),
+        shape.coordinators() + shard_of(hash, shape),
     );
     let status = status_of(own, hash);
     write_status(page, hash, &status)

@@ -77,7 +77,7 @@ module _ (K : Shape) (b : Batch) (log log' : Sight) (I J : ℕ → Sight) (shape
   prepared_on : (txs : List Compact) (t : ℕ) → IsPreparedAt K b txs t log I → IsPreparedAt K b txs t log' J
   prepared_on txs t d = record {
     is_open = open_on _ txs t d.is_open;
-    locking = λ s c. lock_on b.lane b.number (I s).seen (J s).seen (shard_same s) (part K.shards s 0 txs) t (d.locking s c);
+    locking = λ s c. lock_on b.lane b.number (I s).seen (J s).seen (shard_same s) (part K s 0 txs) t (d.locking s c);
   }
 
   committed_on : (txs : List Compact) (t u : ℕ) (os : List Outcome) → IsCommittedAt K b txs t u os log I → IsCommittedAt K b txs t u os log' J
@@ -85,7 +85,7 @@ module _ (K : Shape) (b : Batch) (log log' : Sight) (I J : ℕ → Sight) (shape
     is_open = open_on _ txs t d.is_open;
     commit = log_record 7 ∙ d.commit;
     locks = λ s c. ap (λ o. entries (entries_in o)) (shard_record s 2) ∙ d.locks s c;
-    finishing = λ s c. finish_on b.lane b.number (I s).seen (J s).seen (shard_same s) (decisions os (part K.shards s 0 txs)) u (d.finishing s c);
+    finishing = λ s c. finish_on b.lane b.number (I s).seen (J s).seen (shard_same s) (decisions os (part K s 0 txs)) u (d.finishing s c);
   }
 
   discarded_on : (txs : List Compact) (t u : ℕ) → IsDiscardedAt K b txs t u log I → IsDiscardedAt K b txs t u log' J
