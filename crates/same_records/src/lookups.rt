@@ -1,6 +1,6 @@
 // What stands in records, and how one is found. A journal has its newest record first.
 ghost use Rattle.std.specs.Prelude.{◌≡◌, false, MatchOption};
-ghost use Rattle.cbdc_model.specs.Records.{Batch as ModelBatch, same_batch, stamp_of, kind_of, is_of, is_in_lane, record_of, lock_of, txs_of, outcomes_of, last_stamp};
+ghost use Rattle.cbdc_model.specs.Records.{Batch as ModelBatch, same_batch, stamp_of, kind_of, is_of, tells_lane, record_of, lock_of, txs_of, outcomes_of, last_stamp};
 
 use crate::values::is_same_batch;
 use cbdc_types::{Answered, BatchId, CompactTx, LaneId, Outcome, Record, RecordKind, Stamp};
@@ -73,9 +73,9 @@ pub fn is_of(batch: &BatchId, r: &Record) -> bool
     }
 }
 
-/// Whether a record says what the lane's last batch is: a record of a batch of the lane, and a first record that has its number.
-pub fn is_in_lane(lane: LaneId, r: &Record) -> bool
-    ensures { result ≡ is_in_lane lane r.now }
+/// Whether a record tells what the lane's last batch is: one of a batch of the lane, and a first record that has the lane's number.
+pub fn tells_lane(lane: LaneId, r: &Record) -> bool
+    ensures { result ≡ tells_lane lane r.now }
 {
     match r {
         Record::Lock { batch, .. } => batch.lane.0 == lane.0,

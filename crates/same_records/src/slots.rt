@@ -3,7 +3,7 @@ ghost use Rattle.std.specs.Prelude.{◌≡◌};
 ghost use Rattle.cbdc_model.specs.Slots.{Idle, number_at, slot, slot_stamp};
 ghost use Rattle.same_records.specs.Slots.{slot_in};
 
-use crate::lookups::{is_in_lane, stamp_of};
+use crate::lookups::{stamp_of, tells_lane};
 use cbdc_types::{LaneId, Record, Stamp};
 
 /// What the last record of a lane was: Idle after none, a first record, a Forget or a Done.
@@ -98,7 +98,7 @@ pub fn slot_stamp(past: &[Record], lane: LaneId) -> Stamp
     match past.split_first() {
         None => Stamp(0),
         Some((r, rest)) => {
-            if is_in_lane(lane, r) {
+            if tells_lane(lane, r) {
                 stamp_of(r)
             } else {
                 slot_stamp(rest, lane)
