@@ -1,7 +1,7 @@
 -- Which record it is: what passes the test for a kind and a batch, and what is found by it. Each kind is gone through here once; a law then asks
 -- for the record of its own kind.
 use Rattle.std.proofs.Common.{◌≡◌, ℕ, ◌+◌, ◌<◌, Bool, true, false, cond, ◌&&◌, ◌==◌, List, [], ◌∷◌, Some, None, is_some, refl, ap, ◌∙◌, subst, arith}
-use Rattle.cbdc_model.specs.Records.{Shape, Batch, same_batch, Compact, Outcome, Answered, Record, record_of, kind_of, is_of, is_in_lane, tells_lane, stamp_of}
+use Rattle.cbdc_model.specs.Records.{Shape, Batch, same_batch, Compact, Outcome, Answered, Record, record_of, kind_of, is_of, tells_lane, stamp_of}
 use Rattle.cbdc_model.specs.Records.{last_stamp, Genesis, Lock, Finish, Forget, Start, Prepare, Commit, Discard, Done, Upgrade, Carry, CarryStart}
 use Rattle.cbdc_model.specs.Records.{Seal}
 use Rattle.cbdc_model.specs.After.{IsFirst}
@@ -186,22 +186,6 @@ lanes_apart l m (Genesis header hs) later h apart = refl
 lanes_apart l m (Carry stamp header source hs numbers) later h apart = absurd (later tt)
 lanes_apart l m (CarryStart stamp header source numbers) later h apart = absurd (later tt)
 lanes_apart l m other later h apart = grind (arith, h, apart)
-
--- a record of a lane tells of it, and is no first record; so it tells of no lane but its own
-pub in_lane_later : (l : ℕ) (r : Record) → is_in_lane l r ≡ true → IsFirst r → ⊥
-in_lane_later l (Genesis header hs) e first = absurd (let z : false ≡ true = e in cc)
-in_lane_later l (Start header) e first = absurd (let z : false ≡ true = e in cc)
-in_lane_later l (Carry stamp header source hs numbers) e first = absurd (let z : false ≡ true = e in cc)
-in_lane_later l (CarryStart stamp header source numbers) e first = absurd (let z : false ≡ true = e in cc)
-in_lane_later l other e first = first
-
-pub later_tells : (m : ℕ) (r : Record) → (IsFirst r → ⊥) → tells_lane m r ≡ is_in_lane m r
-later_tells m (Carry stamp header source hs numbers) later = absurd (later tt)
-later_tells m (CarryStart stamp header source numbers) later = absurd (later tt)
-later_tells m other later = refl
-
-pub in_lane_tells : (l m : ℕ) (r : Record) → is_in_lane l r ≡ true → tells_lane m r ≡ is_in_lane m r
-in_lane_tells l m r e = later_tells m r (in_lane_later l r e)
 
 -- what a record of another lane leaves of what is found
 pub found_apart : (kind : ℕ) (r : Record) (J : List Record) (c : Batch) → tells_lane c.lane r ≡ false → record_of kind (r ∷ J) c ≡ record_of kind J c

@@ -2,7 +2,8 @@
 use Rattle.std.proofs.Common.{◌≡◌, ◌≢◌, true, false, ℕ, List, [], ◌∷◌, ◌++◌, refl, sym, ap, ◌∙◌, subst, arith}
 use Rattle.cbdc_model.specs.Records.{Batch, Record, record_of, is_in_lane, tells_lane}
 use Rattle.cbdc_model.specs.Slots.{slot}
-use Rattle.ledger_laws.proofs.ByKind.{in_lane_later, in_lane_tells, lanes_apart}
+use Rattle.cbdc_model.proofs.Telling.{in_lane_later, in_lane_tells}
+use Rattle.ledger_laws.proofs.ByKind.{lanes_apart}
 use Rattle.lane_laws.specs.Batches.{own}
 use Rattle.lane_laws.proofs.Own.{own_out, record_own, slot_own}
 use Rattle.ledger_runs.specs.Faults.{AreOfLane, GrowBy}
