@@ -104,7 +104,9 @@ fn record_bytes(r: &Record) -> u64
         Record::Forget { .. } | Record::Discard { .. } | Record::Done { .. } => 34,
         Record::Upgrade { .. } => 26,
         Record::Carry {
-            hashes, numbers, ..
+            hashes,
+            numbers,
+            ..
         } => hash_bytes(hashes.len(), 0)
             .saturating_add(number_bytes(numbers.len()))
             .saturating_add(122),
