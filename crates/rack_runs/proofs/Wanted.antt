@@ -10,7 +10,7 @@ use Rattle.outside.specs.declared.disk.Disk.{Ghosts}
 use Rattle.cbdc_types.specs.Limits.{IsWithinLimits}
 use Rattle.cbdc_types.specs.declared.calls.LockCall.{LockCall}
 use Rattle.cbdc_model.specs.Records.{Digest, Shape, Header, Batch, Compact, Record, journal, record_of, last_stamp, stamp_of, Genesis, Start, Prepare}
-use Rattle.cbdc_model.specs.Records.{Commit, Discard, Done, Carry, CarryStart}
+use Rattle.cbdc_model.specs.Records.{Commit, Discard, Done, Upgrade, Carry, CarryStart, Seal}
 use Rattle.cbdc_model.specs.Slots.{Phase, slot, Idle, InPrepare, InCommit, InDiscard}
 use Rattle.cbdc_model.specs.Ranges.{home_of, shard_node, part, node_count}
 use Rattle.cbdc_model.specs.Replies.{answered}
@@ -96,18 +96,20 @@ number_next h past (Discard stamp b) some low a le lane =
     number_up lane stamp b InDiscard past (omega (arith, a.1.0, a.1.3, le b.lane)) (omega (arith, a.1.0, le lane))
 number_next h past (Done stamp b) some low a le lane =
     number_up lane stamp b Idle past (omega (arith, a.1.0, a.1.3, le b.lane)) (omega (arith, a.1.0, le lane))
+number_next h past (Upgrade stamp batch) some low a le lane = absurd a.0
+number_next h past (Seal stamp to shards) some low a le lane = absurd a.0
 number_next h past other some low a le lane = absurd (omega (arith, low, a.0.2.0))
 
 number_low : (h : Header) (J : List Record) → h.node < h.shape.coordinators → IsJournal h J → (lane : ℕ) → (slot J lane).number ≤ last_stamp J
 number_low h [] low j lane = absurd j
-number_low h (r ∷ []) low j lane = first r j.0
+number_low h (r ∷ []) low j lane = first r j.0 j.1.0
   where
-    first : (r : Record) → IsFirst r → (slot (r ∷ []) lane).number ≤ last_stamp (r ∷ [])
-    first (Genesis header hs) is = omega arith
-    first (Carry stamp header source hs numbers) is = omega arith
-    first (Start header) is = omega arith
-    first (CarryStart stamp header source numbers) is = omega arith
-    first other is = absurd is
+    first : (r : Record) → IsFirst r → IsInGrammar h r → (slot (r ∷ []) lane).number ≤ last_stamp (r ∷ [])
+    first (Genesis header hs) is g = omega arith
+    first (Carry stamp header source hs numbers) is g = absurd g
+    first (Start header) is g = omega arith
+    first (CarryStart stamp header source numbers) is g = absurd g
+    first other is g = absurd is
 number_low h (r ∷ (q ∷ past)) low j lane = number_next h (q ∷ past) r (λ none. absurd (let z : q ∷ past ≡ [] = none in cc)) low j.0
     (λ l. number_low h (q ∷ past) low j.1 l) lane
 
