@@ -16,7 +16,7 @@ use Rattle.cbdc_model.specs.Ranges.{home_of, shard_node, part, node_count}
 use Rattle.cbdc_model.specs.Replies.{answered}
 use Rattle.cbdc_model.specs.Grammar.{IsCompact, IsInGrammar}
 use Rattle.cbdc_model.specs.Calls.{IsLockCall}
-use Rattle.cbdc_model.specs.After.{After, Follows, IsFirst, IsJournal}
+use Rattle.cbdc_model.specs.After.{After, Follows, IsFirst, IsJournal, IsUnsealed}
 use Rattle.cbdc_model.specs.Due.{prepare_record, lock_record}
 use Rattle.cbdc_model.specs.History.{Minted, header_of, first_rows}
 use Rattle.cbdc_model.specs.Lanes.{IsEnd}
@@ -71,6 +71,18 @@ one_header : (h g : Header) (J : List Record) → IsJournal h J → IsJournal g 
 one_header h g [] i j = absurd i
 one_header h g (r ∷ []) i j = first_header h g r i.0 i.1.0 j.1.0
 one_header h g (r ∷ (q ∷ past)) i j = one_header h g (q ∷ past) i.1 j.1
+
+-- no Seal is in the grammar, so a journal has none
+unsealed_next : (h : Header) (r : Record) (past : List Record) → IsInGrammar h r → IsUnsealed past → IsUnsealed (r ∷ past)
+unfolding IsUnsealed
+unsealed_next h (Seal stamp to shards) past g u = absurd g
+unsealed_next h other past g u = u
+
+unsealed : (h : Header) (J : List Record) → IsJournal h J → IsUnsealed J
+unfolding IsUnsealed
+unsealed h [] j = absurd j
+unsealed h (r ∷ []) j = unsealed_next h r [] j.1.0 tt
+unsealed h (r ∷ (q ∷ past)) j = unsealed_next h r (q ∷ past) j.0.0 (unsealed h (q ∷ past) j.1)
 
 -- at a coordinator the number of a lane's slot is no greater than the last stamp
 number_up : (lane stamp : ℕ) (b : Batch) (p : Phase) (past : List Record) → b.number ≤ stamp → (slot past lane).number ≤ stamp
@@ -200,7 +212,8 @@ module _ (K : Shape) (m : Minted) (X : ℕ → List Record) (limits : IsWithinLi
       → (slot front lane).phase ≡ Idle → Next (home_of K lane) front (prepare_record front lane txs)
   prepare_next lane txs front lt home fits j idle =
       let le : (slot front lane).number ≤ last_stamp front = number_low (header_of K m.id (home_of K lane)) front home j lane in
-      let follows : Follows (header_of K m.id (home_of K lane)) front (prepare_record front lane txs) = (omega arith, refl, idle, omega arith) in (
+      let follows : Follows (header_of K m.id (home_of K lane)) front (prepare_record front lane txs)
+      = (omega arith, refl, idle, omega arith, unsealed (header_of K m.id (home_of K lane)) front j) in (
         follows,
         λ early. (((omega arith, early), (lt, omega arith, omega (arith, le, early)), home, fits.0, fits.1), follows),
       )
