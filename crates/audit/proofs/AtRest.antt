@@ -23,7 +23,7 @@ not_home K h minting kind (Lock stamp c es) low which k g = omega (arith, low, g
 not_home K h minting kind (Finish stamp c ds) low which k g = omega (arith, low, g.2.0)
 not_home K h minting kind (Forget stamp c) low which k g = omega (arith, low, g.2.0)
 not_home K h minting kind (Genesis header hs) low which k g = omega (arith, low, g.2.0)
-not_home K h minting kind (Carry stamp header source hs numbers) low which k g = omega (arith, low, g.2.0)
+not_home K h minting kind (Carry stamp header source hs numbers) low which k g = absurd g
 not_home K h minting kind other low which k g = grind (arith, k, which)
 
 module _ (K : Shape) (minting : Minted) (P : Compact → Type 0) (shards : 0 < K.shards) (later : List Row) (kept : Steady K minting P later) where

@@ -104,19 +104,17 @@ module _ (K : Shape) (X : ℕ → List Record) (here : (s : ℕ) → s < K.shard
 -- a coordinator's is its Start, a shard's its Genesis with hashes that lie there
 log_first : (h : Header) (r : Record) → h.node < h.shape.coordinators → IsFirst r → After h [] r → r ≡ Start h
 log_first h (Start header) low first after = ap Start after.0.0
-log_first h (CarryStart stamp header source numbers) low first after = ap Start after.0.0
+log_first h (CarryStart stamp header source numbers) low first after = absurd after.0
 log_first h (Genesis header hs) low first after = absurd (let shard : IsShard h.shape h.node = after.0.2 in omega (arith, low, shard.0))
-log_first h (Carry stamp header source hs numbers) low first after =
-    absurd (let shard : IsShard h.shape h.node = after.0.2 in omega (arith, low, shard.0))
+log_first h (Carry stamp header source hs numbers) low first after = absurd after.0
 log_first h other low first after = absurd first
 
 shard_first : (h : Header) (r : Record) → h.shape.coordinators ≤ h.node → IsFirst r → After h [] r
     → (r ≡ Genesis h (hashes_in r)) × AreHere h.shape h.node (hashes_in r)
 shard_first h (Genesis header hs) high first after = (ap (λ k. Genesis k hs) after.0.0, after.0.5)
-shard_first h (Carry stamp header source hs numbers) high first after = (ap (λ k. Genesis k hs) after.0.0, after.0.5)
+shard_first h (Carry stamp header source hs numbers) high first after = absurd after.0
 shard_first h (Start header) high first after = absurd (let low : h.node < h.shape.coordinators = after.0.2 in omega (arith, high, low))
-shard_first h (CarryStart stamp header source numbers) high first after =
-    absurd (let low : h.node < h.shape.coordinators = after.0.2 in omega (arith, high, low))
+shard_first h (CarryStart stamp header source numbers) high first after = absurd after.0
 shard_first h other high first after = absurd first
 
 -- the journal ends in it

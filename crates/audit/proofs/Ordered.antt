@@ -3,7 +3,7 @@ use Rattle.std.proofs.Common.{◌≡◌, ℕ, zero, suc, ◌+◌, ◌<◌, ◌�
 use Rattle.cbdc_model.specs.After.{After}
 use Rattle.cbdc_model.specs.History.{Minted, minted, header_of, starts, geneses, first_rows, history_of, IsAbove, IsOrdered}
 use Rattle.cbdc_model.specs.Ranges.{shard_node, on_shard}
-use Rattle.cbdc_model.specs.Records.{Shape, Record, Row, journal, stamp_of, Genesis, Start, Carry, CarryStart}
+use Rattle.cbdc_model.specs.Records.{Shape, Record, Row, journal, stamp_of, Genesis, Start, Upgrade, Carry, CarryStart, Seal}
 use Rattle.ledger_laws.proofs.Ledger.{next_at}
 use Rattle.ledger_laws.proofs.Next.{Next}
 use Rattle.ledger_laws.proofs.OneHistory.{one_history}
@@ -42,6 +42,8 @@ module _ (K : Shape) (m : Minted) where
   stamped node J (Carry stamp header source hs numbers) a next = absurd next
   stamped node J (Start header) a next = absurd next
   stamped node J (CarryStart stamp header source numbers) a next = absurd next
+  stamped node J (Upgrade stamp batch) a next = absurd a.0
+  stamped node J (Seal stamp to shards) a next = absurd a.0
   stamped node J other a next = omega (arith, a.0.0)
 
   above_start : (row : Row) (n : ℕ) → 0 < stamp_of row.what → IsAbove row (starts K m n)

@@ -1,7 +1,8 @@
 -- First rows, node by node, and that rows stand on the nodes of their ledger.
 use Rattle.std.proofs.Common.{◌≡◌, ◌↔◌, Bool, sym, ap, ◌∙◌, subst, ℕ, zero, suc, ◌+◌, ◌-◌, ◌<◌, ◌≤◌, List, [], ◌∷◌, ◌++◌, refl, arith}
 use Rattle.std.proofs.lemmas.Grind.{common_steps}
-use Rattle.cbdc_model.specs.Records.{Shape, Compact, Record, Row, journal, Genesis, Lock, Finish, Forget, Start, Carry}
+use Rattle.cbdc_model.specs.Records.{Shape, Compact, Record, Row, journal, Genesis, Lock, Finish, Forget, Start, Upgrade}
+use Rattle.cbdc_model.specs.Records.{Carry, CarryStart, Seal}
 use Rattle.std.specs.Prelude.{IsTrue}
 use Rattle.cbdc_model.specs.After.{After}
 use Rattle.cbdc_model.specs.Causes.{IsCaused}
@@ -40,7 +41,10 @@ first_none K m n h =
 
 on_node : (K : Shape) (m : Minted) (n : ℕ) (past : List Record) (r : Record) → After (header_of K m.id n) past r → n < K.coordinators + K.shards
 on_node K m n past (Genesis header hs) h = h.0.2.1
-on_node K m n past (Carry stamp header source hs numbers) h = h.0.2.1
+on_node K m n past (Upgrade stamp batch) h = absurd h.0
+on_node K m n past (Carry stamp header source hs numbers) h = absurd h.0
+on_node K m n past (CarryStart stamp header source numbers) h = absurd h.0
+on_node K m n past (Seal stamp to shards) h = absurd h.0
 on_node K m n past (Lock stamp b es) h = h.0.2.1
 on_node K m n past (Finish stamp b ds) h = h.0.2.1
 on_node K m n past (Forget stamp b) h = h.0.2.1

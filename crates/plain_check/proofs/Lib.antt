@@ -24,3 +24,4 @@ pub mod Pages
 pub mod Steps
 pub mod Different
 pub mod Submitted
+pub mod Sealing

@@ -1,7 +1,7 @@
 -- The hashes that journals name, as candidates for the unspent ones.
 use Rattle.std.specs.Prelude.{ℕ, zero, suc, Bool, true, false, ◌&&◌, not, List, [], ◌∷◌, ◌++◌, if◌then◌else◌}
 use Rattle.cbdc_model.specs.Records.{Digest, Shape, Answered, Record, lock_of, Genesis, Lock, Finish, Forget, Start, Prepare, Commit, Discard, Done}
-use Rattle.cbdc_model.specs.Records.{Carry, CarryStart}
+use Rattle.cbdc_model.specs.Records.{Upgrade, Carry, CarryStart, Seal}
 use Rattle.cbdc_model.specs.Status.{Status, status, has, Unspent, Locked, Absent}
 use Rattle.cbdc_model.specs.Ranges.{shard_of, shard_node}
 
@@ -24,6 +24,8 @@ named_hashes (Prepare stamp b txs ∷ past) = named_hashes past
 named_hashes (Commit stamp b os ∷ past) = named_hashes past
 named_hashes (Discard stamp b ∷ past) = named_hashes past
 named_hashes (Done stamp b ∷ past) = named_hashes past
+named_hashes (Upgrade stamp batch ∷ past) = named_hashes past
+named_hashes (Seal stamp to shards ∷ past) = named_hashes past
 
 -- those that the journals of the shards below n name
 abbrev pub named_below : Shape → (ℕ → List Record) → ℕ → List Digest

@@ -1,17 +1,20 @@
 // Which record may come next at a node, by its journal alone.
-ghost use Rattle.std.specs.Prelude.{◌≡◌, ◌<◌, ◌↔◌, List as Items, [], IsTrue, IfOk};
+ghost use Rattle.std.specs.Prelude.{◌≡◌, ◌<◌, ◌↔◌, ℕ, List as Items, [], IsTrue, IfOk};
 ghost use Rattle.cbdc_model.specs.Records.{Compact, Prepare, last_stamp, lock_of};
 ghost use Rattle.cbdc_model.specs.Ranges.{home_of};
 ghost use Rattle.cbdc_model.specs.Replies.{answered, entries};
 ghost use Rattle.cbdc_model.specs.Slots.{slot, Idle, InLock};
-ghost use Rattle.cbdc_model.specs.After.{FitsReplies, Follows, After};
+ghost use Rattle.cbdc_model.specs.After.{IsAtRest, IsUnsealed, FitsReplies, Follows, After};
 ghost use Rattle.same_records.specs.Slots.{phase_in};
 
 use crate::copying::entries_in;
+use crate::nexts::is_idle;
 use crate::replying::replies_of;
-use cbdc_types::{Answered, BatchId, Header, Record, Stamp};
+use cbdc_types::{Answered, BatchId, Header, LaneId, Record, RecordKind, Stamp};
 use record_grammar::is_in_grammar;
-use same_records::{Phase, are_answered, home_of, is_held, last_stamp, lock_of, slot_of, txs_of};
+use same_records::{
+    Phase, are_answered, home_of, is_held, kind_of, last_stamp, lock_of, slot_of, txs_of,
+};
 use std::alloc::{AllocError, Global};
 
 /// Whether there are as many decisions as entries, and commits only for Held.
@@ -66,6 +69,17 @@ fn is_next_lock(past: &[Record], stamp: Stamp, batch: &BatchId) -> bool
     is_newer(past, stamp) && own.phase == Phase::Idle && own.number < batch.number
 }
 
+// Whether no Seal stands in the journal.
+#[tactic(auto, using(crate::proofs::Sealing::unsealed_none, crate::proofs::Sealing::unsealed_more))]
+fn is_unsealed(past: &[Record]) -> bool
+    ensures { IsTrue result ↔ IsUnsealed past.now }
+{
+    match past.split_first() {
+        None => true,
+        Some((r, rest)) => kind_of(r) != RecordKind::Seal as u64 && is_unsealed(rest),
+    }
+}
+
 // Whether a Prepare of this batch may come next.
 fn is_next_prepare(h: &Header, past: &[Record], stamp: Stamp, batch: &BatchId) -> bool
     ensures { (txs : Items Compact) → IsTrue result ↔ Follows h.now past.now (Prepare stamp batch.now txs) }
@@ -76,6 +90,25 @@ fn is_next_prepare(h: &Header, past: &[Record], stamp: Stamp, batch: &BatchId) -
         && own.phase == Phase::Idle
         && 0 < batch.number
         && own.number == batch.number - 1
+        && is_unsealed(past)
+}
+
+// Whether none of the lanes below n has an unfinished batch in the journal.
+fn rests_below(past: &[Record], n: u32) -> bool
+    ensures { IsTrue result ↔ ((lane : ℕ) → lane < n → (slot past.now lane).phase ≡ Idle) }
+{
+    if n == 0 {
+        return true;
+    }
+    is_idle(slot_of(past, LaneId(n - 1)).phase) && rests_below(past, n - 1)
+}
+
+// Whether an Upgrade or a Seal may come next.
+fn is_next_at_rest(h: &Header, past: &[Record], stamp: Stamp) -> bool
+    ensures { IsTrue result
+        ↔ ((last_stamp past.now < stamp) × IsAtRest h.now.shape past.now × IsUnsealed past.now) }
+{
+    is_newer(past, stamp) && rests_below(past, h.shape.lane_count()) && is_unsealed(past)
 }
 
 // Whether a record behind this batch's Prepare may come next, where the lane's last record is in this phase.
@@ -141,6 +174,10 @@ pub fn follows(alloc: Global, h: &Header, past: &[Record], r: &Record) -> Result
         Record::Done { stamp, batch } => {
             Ok(is_next_own(h, past, *stamp, batch, Phase::InDiscard))
         }
+        Record::Upgrade { stamp, .. } => Ok(is_next_at_rest(h, past, *stamp)),
+        Record::Carry { .. } => Ok(past.is_empty()),
+        Record::CarryStart { .. } => Ok(past.is_empty()),
+        Record::Seal { stamp, .. } => Ok(is_next_at_rest(h, past, *stamp)),
     }
 }
 

@@ -133,16 +133,10 @@ one_journal h k J L r s bytes one other =
 begins_journal : (h : Header) (r : Record) → IsWithinLimits h.shape → IsFirst r → IsInGrammar h r → BeginsJournal r
 begins_journal h (Genesis header hs) limits first is =
     (subst (λ (k : Header). IsWithinLimits k.shape) (sym is.0) limits, subst (λ (k : Header). IsInGrammar k (Genesis header hs)) (sym is.0) is)
-begins_journal h (Carry stamp header source hs numbers) limits first is = (
-  subst (λ (k : Header). IsWithinLimits k.shape) (sym is.0) limits,
-  subst (λ (k : Header). IsInGrammar k (Carry stamp header source hs numbers)) (sym is.0) is,
-)
+begins_journal h (Carry stamp header source hs numbers) limits first is = absurd is
 begins_journal h (Start header) limits first is =
     (subst (λ (k : Header). IsWithinLimits k.shape) (sym is.0) limits, subst (λ (k : Header). IsInGrammar k (Start header)) (sym is.0) is)
-begins_journal h (CarryStart stamp header source numbers) limits first is = (
-  subst (λ (k : Header). IsWithinLimits k.shape) (sym is.0) limits,
-  subst (λ (k : Header). IsInGrammar k (CarryStart stamp header source numbers)) (sym is.0) is,
-)
+begins_journal h (CarryStart stamp header source numbers) limits first is = absurd is
 begins_journal h other limits first is = absurd first
 
 first_row : (h : Header) (R : List Record) (rest bytes : List ℕ) → IsWithinLimits h.shape → Begins h R → bytes ≡ rows (bodies_of R) ++ rest

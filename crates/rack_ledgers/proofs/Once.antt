@@ -52,9 +52,9 @@ same_journal h k (q ∷ (p ∷ J)) (r ∷ (o ∷ L)) low low' j l e =
 -- a journal has one header: that of its first record
 pub first_header : (h k : Header) (r : Record) → IsFirst r → IsInGrammar h r → IsInGrammar k r → h ≡ k
 first_header h k (Genesis header hs) first one other = sym one.0 ∙ other.0
-first_header h k (Carry stamp header source hs numbers) first one other = sym one.0 ∙ other.0
+first_header h k (Carry stamp header source hs numbers) first one other = absurd one
 first_header h k (Start header) first one other = sym one.0 ∙ other.0
-first_header h k (CarryStart stamp header source numbers) first one other = sym one.0 ∙ other.0
+first_header h k (CarryStart stamp header source numbers) first one other = absurd one
 first_header h k r first one other = absurd first
 
 one_header : (h k : Header) (J : List Record) → IsJournal h J → IsJournal k J → h ≡ k

@@ -142,11 +142,7 @@ no_start h (Start header) x limits shard is grammar same =
     let one : Start header ≡ x = same_record header h (Start header) x is.0 limits is.1 grammar same in
     let here : IsInGrammar h (Start header) = subst (IsInGrammar h) (sym one) grammar in
     absurd (omega (arith, here.2, shard.0))
-no_start h (CarryStart stamp header source numbers) x limits shard is grammar same =
-    let one : CarryStart stamp header source numbers ≡ x =
-    same_record header h (CarryStart stamp header source numbers) x is.0 limits is.1 grammar same in
-    let here : IsInGrammar h (CarryStart stamp header source numbers) = subst (IsInGrammar h) (sym one) grammar in
-    absurd (omega (arith, here.2, shard.0))
+no_start h (CarryStart stamp header source numbers) x limits shard is grammar same = absurd is.1
 no_start h other x limits shard is grammar same = absurd is
 
 -- a shard's first record is none of a coordinator's journal
@@ -155,11 +151,7 @@ no_genesis h (Genesis header hs) x limits coordinator is grammar same =
     let one : Genesis header hs ≡ x = same_record header h (Genesis header hs) x is.0 limits is.1 grammar same in
     let here : IsInGrammar h (Genesis header hs) = subst (IsInGrammar h) (sym one) grammar in
     absurd (omega (arith, here.2.0, coordinator))
-no_genesis h (Carry stamp header source hs numbers) x limits coordinator is grammar same =
-    let one : Carry stamp header source hs numbers ≡ x = same_record header h (Carry stamp header source hs numbers) x is.0 limits is.1 grammar same
-    in
-    let here : IsInGrammar h (Carry stamp header source hs numbers) = subst (IsInGrammar h) (sym one) grammar in
-    absurd (omega (arith, here.2.0, coordinator))
+no_genesis h (Carry stamp header source hs numbers) x limits coordinator is grammar same = absurd is.1
 no_genesis h other x limits coordinator is grammar same = absurd is
 
 -- ---- the laws

@@ -20,9 +20,9 @@ one_first q r q_is r_is same =
 -- which has its own header
 own_header : (g h : Header) (r : Record) → IsFirstRecord r → IsInGrammar g r → IsInGrammar h r → g ≡ h
 own_header g h (Genesis header hs) is one other = sym one.0 ∙ other.0
-own_header g h (Carry stamp header source hs numbers) is one other = sym one.0 ∙ other.0
+own_header g h (Carry stamp header source hs numbers) is one other = absurd one
 own_header g h (Start header) is one other = sym one.0 ∙ other.0
-own_header g h (CarryStart stamp header source numbers) is one other = sym one.0 ∙ other.0
+own_header g h (CarryStart stamp header source numbers) is one other = absurd one
 own_header g h r is one other = absurd is
 
 row_len : (P : Record → Type 0) (rest : List ℕ) → HasRow P rest → 1 ≤ length rest

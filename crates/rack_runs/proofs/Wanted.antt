@@ -10,13 +10,13 @@ use Rattle.outside.specs.declared.disk.Disk.{Ghosts}
 use Rattle.cbdc_types.specs.Limits.{IsWithinLimits}
 use Rattle.cbdc_types.specs.declared.calls.LockCall.{LockCall}
 use Rattle.cbdc_model.specs.Records.{Digest, Shape, Header, Batch, Compact, Record, journal, record_of, last_stamp, stamp_of, Genesis, Start, Prepare}
-use Rattle.cbdc_model.specs.Records.{Commit, Discard, Done, Carry, CarryStart}
+use Rattle.cbdc_model.specs.Records.{Commit, Discard, Done, Upgrade, Carry, CarryStart, Seal}
 use Rattle.cbdc_model.specs.Slots.{Phase, slot, Idle, InPrepare, InCommit, InDiscard}
 use Rattle.cbdc_model.specs.Ranges.{home_of, shard_node, part, node_count}
 use Rattle.cbdc_model.specs.Replies.{answered}
 use Rattle.cbdc_model.specs.Grammar.{IsCompact, IsInGrammar}
 use Rattle.cbdc_model.specs.Calls.{IsLockCall}
-use Rattle.cbdc_model.specs.After.{After, Follows, IsFirst, IsJournal}
+use Rattle.cbdc_model.specs.After.{After, Follows, IsFirst, IsJournal, IsUnsealed}
 use Rattle.cbdc_model.specs.Due.{prepare_record, lock_record}
 use Rattle.cbdc_model.specs.History.{Minted, header_of, first_rows}
 use Rattle.cbdc_model.specs.Lanes.{IsEnd}
@@ -72,6 +72,18 @@ one_header h g [] i j = absurd i
 one_header h g (r ∷ []) i j = first_header h g r i.0 i.1.0 j.1.0
 one_header h g (r ∷ (q ∷ past)) i j = one_header h g (q ∷ past) i.1 j.1
 
+-- no Seal is in the grammar, so a journal has none
+unsealed_next : (h : Header) (r : Record) (past : List Record) → IsInGrammar h r → IsUnsealed past → IsUnsealed (r ∷ past)
+unfolding IsUnsealed
+unsealed_next h (Seal stamp to shards) past g u = absurd g
+unsealed_next h other past g u = u
+
+unsealed : (h : Header) (J : List Record) → IsJournal h J → IsUnsealed J
+unfolding IsUnsealed
+unsealed h [] j = absurd j
+unsealed h (r ∷ []) j = unsealed_next h r [] j.1.0 tt
+unsealed h (r ∷ (q ∷ past)) j = unsealed_next h r (q ∷ past) j.0.0 (unsealed h (q ∷ past) j.1)
+
 -- at a coordinator the number of a lane's slot is no greater than the last stamp
 number_up : (lane stamp : ℕ) (b : Batch) (p : Phase) (past : List Record) → b.number ≤ stamp → (slot past lane).number ≤ stamp
     → (if b.lane == lane then record { number = b.number; phase = p } else slot past lane).number ≤ stamp
@@ -96,18 +108,20 @@ number_next h past (Discard stamp b) some low a le lane =
     number_up lane stamp b InDiscard past (omega (arith, a.1.0, a.1.3, le b.lane)) (omega (arith, a.1.0, le lane))
 number_next h past (Done stamp b) some low a le lane =
     number_up lane stamp b Idle past (omega (arith, a.1.0, a.1.3, le b.lane)) (omega (arith, a.1.0, le lane))
+number_next h past (Upgrade stamp batch) some low a le lane = absurd a.0
+number_next h past (Seal stamp to shards) some low a le lane = absurd a.0
 number_next h past other some low a le lane = absurd (omega (arith, low, a.0.2.0))
 
 number_low : (h : Header) (J : List Record) → h.node < h.shape.coordinators → IsJournal h J → (lane : ℕ) → (slot J lane).number ≤ last_stamp J
 number_low h [] low j lane = absurd j
-number_low h (r ∷ []) low j lane = first r j.0
+number_low h (r ∷ []) low j lane = first r j.0 j.1.0
   where
-    first : (r : Record) → IsFirst r → (slot (r ∷ []) lane).number ≤ last_stamp (r ∷ [])
-    first (Genesis header hs) is = omega arith
-    first (Carry stamp header source hs numbers) is = omega arith
-    first (Start header) is = omega arith
-    first (CarryStart stamp header source numbers) is = omega arith
-    first other is = absurd is
+    first : (r : Record) → IsFirst r → IsInGrammar h r → (slot (r ∷ []) lane).number ≤ last_stamp (r ∷ [])
+    first (Genesis header hs) is g = omega arith
+    first (Carry stamp header source hs numbers) is g = absurd g
+    first (Start header) is g = omega arith
+    first (CarryStart stamp header source numbers) is g = absurd g
+    first other is g = absurd is
 number_low h (r ∷ (q ∷ past)) low j lane = number_next h (q ∷ past) r (λ none. absurd (let z : q ∷ past ≡ [] = none in cc)) low j.0
     (λ l. number_low h (q ∷ past) low j.1 l) lane
 
@@ -198,7 +212,8 @@ module _ (K : Shape) (m : Minted) (X : ℕ → List Record) (limits : IsWithinLi
       → (slot front lane).phase ≡ Idle → Next (home_of K lane) front (prepare_record front lane txs)
   prepare_next lane txs front lt home fits j idle =
       let le : (slot front lane).number ≤ last_stamp front = number_low (header_of K m.id (home_of K lane)) front home j lane in
-      let follows : Follows (header_of K m.id (home_of K lane)) front (prepare_record front lane txs) = (omega arith, refl, idle, omega arith) in (
+      let follows : Follows (header_of K m.id (home_of K lane)) front (prepare_record front lane txs)
+      = (omega arith, refl, idle, omega arith, unsealed (header_of K m.id (home_of K lane)) front j) in (
         follows,
         λ early. (((omega arith, early), (lt, omega arith, omega (arith, le, early)), home, fits.0, fits.1), follows),
       )
