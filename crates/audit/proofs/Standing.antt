@@ -5,7 +5,7 @@ use Rattle.std.specs.Prelude.{OnOk}
 use Rattle.std.proofs.lemmas.List.{drop_more}
 use Rattle.std.proofs.lemmas.Bool.{cases_lt}
 use Rattle.cbdc_model.specs.Records.{Digest, same_digest, Shape, Batch, Answered, Record, Row, journal, is_held, Genesis, Lock, Finish, Forget, Start}
-use Rattle.cbdc_model.specs.Records.{Prepare, Commit, Discard, Done}
+use Rattle.cbdc_model.specs.Records.{Prepare, Commit, Discard, Done, Upgrade, Carry, CarryStart, Seal}
 use Rattle.cbdc_model.specs.Status.{Status, status, has, held_inputs, taken_inputs, returned_inputs, made_outputs, finished_status, Unspent, Absent}
 use Rattle.cbdc_model.specs.Ranges.{shard_of, shard_node, journal_at}
 use Rattle.ledger_laws.proofs.Counts.{same_digest_is}
@@ -245,6 +245,10 @@ next_is (Prepare stamp b txs) J x = refl
 next_is (Commit stamp b os) J x = refl
 next_is (Discard stamp b) J x = refl
 next_is (Done stamp b) J x = refl
+next_is (Upgrade stamp batch) J x = refl
+next_is (Carry stamp header source hs numbers) J x = refl
+next_is (CarryStart stamp header source numbers) J x = refl
+next_is (Seal stamp to shards) J x = refl
 
 pub statuses_next : (K : Shape) (old new : Statuses) (node : ℕ) (r : Record) (past : List Row) → HasStatuses K old past
     → ((y : Digest) → says new y ≡ (if is_here K node y then next_status r (journal node past) y (says old y) else says old y))

@@ -386,5 +386,9 @@ pub(crate) fn is_caused(
                 batch,
             ))
         }
+        Record::Upgrade { stamp, .. } => Ok(is_stamped(known, node, stamp.0, 0)),
+        Record::Carry { .. } => Ok(true),
+        Record::CarryStart { .. } => Ok(true),
+        Record::Seal { stamp, .. } => Ok(is_stamped(known, node, stamp.0, 0)),
     }
 }

@@ -31,6 +31,10 @@ fn kind_and_batch(r: &Record) -> Option<(u64, BatchId)>
         Record::Commit { batch, .. } => Some((RecordKind::Commit as u64, *batch)),
         Record::Discard { batch, .. } => Some((RecordKind::Discard as u64, *batch)),
         Record::Done { batch, .. } => Some((RecordKind::Done as u64, *batch)),
+        Record::Upgrade { .. } => None,
+        Record::Carry { .. } => None,
+        Record::CarryStart { .. } => None,
+        Record::Seal { .. } => None,
     }
 }
 

@@ -213,6 +213,9 @@ impl Statuses {
             Record::Genesis { hashes, .. } => {
                 self.set_here(shape, node, hashes.as_slice(), &Status::Unspent)
             }
+            Record::Carry { hashes, .. } => {
+                self.set_here(shape, node, hashes.as_slice(), &Status::Unspent)
+            }
             Record::Lock { batch, entries, .. } => {
                 self.lock_held(shape, node, entries.as_slice(), batch)
             }

@@ -57,7 +57,7 @@ some_marked K s m (x ∷ xs) some = go (some_marked K s (bit_or m (2 ^ shard_of 
         ih h
 
 -- whether the shard has no hash of the transaction
-abbrev misses : ℕ → ℕ → Compact → Bool
+abbrev misses : Shape → ℕ → Compact → Bool
 misses K s t = is_empty (on_shard K s t.inputs) && is_empty (on_shard K s t.outputs)
 
 mask_clear : (K : Shape) (s : ℕ) (t : Compact) → misses K s t ≡ true → bit_at (mask_of K t) s ≡ 1 → ⊥

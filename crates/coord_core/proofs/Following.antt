@@ -2,7 +2,7 @@
 use Rattle.std.proofs.Common.{◌≡◌, ◌≢◌, ◌+◌, List, [], length, ap, sym, ◌∙◌, arith}
 use Rattle.std.specs.Prelude.{◌↔◌, IsTrue, Bool, Result, Ok, Err, IfOk}
 use Rattle.std.proofs.lemmas.List.{length-map}
-use Rattle.cbdc_model.specs.Records.{Record, txs_of, Genesis, Start, Prepare, Commit, Discard, Done, Carry, CarryStart}
+use Rattle.cbdc_model.specs.Records.{Record, txs_of, Genesis, Start, Prepare, Commit, Discard, Done, Upgrade, Carry, CarryStart, Seal}
 use Rattle.cbdc_model.specs.Slots.{slot, InPrepare, InCommit, InDiscard}
 use Rattle.cbdc_model.specs.Grammar.{IsInGrammar}
 use Rattle.cbdc_model.specs.After.{After, Follows}
@@ -20,6 +20,7 @@ follows_admitted c J (Prepare stamp b txs) stands next =
       sym next.0.0.0,
       ap (λ x. x.phase) (sym s) ∙ next.0.1,
       next.0.2 ∙ ap (λ x. x.number + 1) s,
+      stands.unsealed,
     )
 follows_admitted c J (Commit stamp b os) stands next =
     let s : slot J b.lane ≡ record { number = b.number; phase = InPrepare } = sym (stands.slots b.lane next.0.0) ∙ next.1 in
@@ -76,6 +77,8 @@ admitted_follows c J (Done stamp b) whole stands begun grammar follows =
     let own = sym follows.1 in
     let s : (coord_lane c b.lane).slot ≡ slot J b.lane = stands.slots b.lane own in
     ((own, (omega (arith, stands.last, follows.0)), grammar.0.1), s ∙ slot_is (slot J b.lane) b.number InDiscard (sym follows.3) follows.2)
+admitted_follows c J (Upgrade stamp batch) whole stands begun grammar follows = absurd grammar
+admitted_follows c J (Seal stamp to shards) whole stands begun grammar follows = absurd grammar
 admitted_follows c J other whole stands begun grammar follows = absurd (omega (arith, grammar.2.0, whole.node))
 
 -- behind the test of the grammar, that of the lanes tells what is next

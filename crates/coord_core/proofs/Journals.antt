@@ -5,10 +5,10 @@ use Rattle.std.specs.Prelude.{if◌then◌else◌, ◌==◌}
 use Rattle.std.proofs.lemmas.Bool.Decides.{eqb_tells}
 use Rattle.std.proofs.lemmas.List.{length-map}
 use Rattle.cbdc_model.specs.Records.{Header, Record, Batch, Compact, txs_of, Genesis, Lock, Finish, Forget, Start, Prepare, Commit, Discard, Done}
-use Rattle.cbdc_model.specs.Records.{Carry, CarryStart}
+use Rattle.cbdc_model.specs.Records.{Upgrade, Carry, CarryStart, Seal}
 use Rattle.cbdc_model.specs.Slots.{Slot, Phase, slot, Idle, InLock, InFinish, InPrepare, InCommit, InDiscard}
 use Rattle.cbdc_model.specs.Ranges.{home_of}
-use Rattle.cbdc_model.specs.Grammar.{IsBatchOf, HasSize}
+use Rattle.cbdc_model.specs.Grammar.{IsInGrammar, IsBatchOf, HasSize}
 use Rattle.cbdc_model.specs.After.{After, Follows, IsJournal}
 use Rattle.cbdc_model.specs.Due.{open_batch}
 use Rattle.coord_core.specs.Masks.{mask_of, masks_of}
@@ -23,6 +23,7 @@ follows_next c J (Prepare stamp b txs) stands next =
       sym next.0.0.0,
       ap (λ x. x.phase) (sym s) ∙ next.0.1,
       next.0.2 ∙ ap (λ x. x.number + 1) s,
+      stands.unsealed,
     )
 follows_next c J (Commit stamp b os) stands next =
     let s : slot J b.lane ≡ record { number = b.number; phase = InPrepare } = sym (stands.slots b.lane next.0.0) ∙ next.1 in
@@ -59,11 +60,11 @@ abbrev slot_by : Option (Batch × Phase) → Slot → ℕ → Slot
 slot_by None s lane = s
 slot_by (Some (b, p)) s lane = if b.lane == lane then record { number = b.number; phase = p } else s
 
-slot_is_by : (r : Record) (past : List Record) (lane : ℕ) → slot (r ∷ past) lane ≡ slot_by (sets_of r) (slot past lane) lane
+slot_is_by : (h : Header) (r : Record) (past : List Record) (lane : ℕ) → IsInGrammar h r → slot (r ∷ past) lane ≡ slot_by (sets_of r) (slot past lane) lane
 unfolding sets_of
-slot_is_by (Genesis header hs) past lane = refl
-slot_is_by (Carry stamp header source hs numbers) past lane = refl
-slot_is_by other past lane = refl
+slot_is_by h (Carry stamp header source hs numbers) past lane grammar = absurd grammar
+slot_is_by h (CarryStart stamp header source numbers) past lane grammar = absurd grammar
+slot_is_by h other past lane grammar = refl
 
 -- a phase of a coordinator's lane
 abbrev pub IsCoordPhase : Phase → Type 0
@@ -87,6 +88,8 @@ set_facts h past (Finish stamp b ds) node after = absurd (omega (arith, after.0.
 set_facts h past (Forget stamp b) node after = absurd (omega (arith, after.0.2.0))
 set_facts h past (Start header) node after = tt
 set_facts h past (CarryStart stamp header source numbers) node after = tt
+set_facts h past (Upgrade stamp batch) node after = tt
+set_facts h past (Seal stamp to shards) node after = tt
 set_facts h past other node after = (after.0.1, after.1.1, tt)
 
 abbrev pub no_slot : Slot
@@ -113,9 +116,9 @@ by_facts h lane s (Some (b, p)) facts old = go (eqb_tells b.lane lane)
 pub slot_facts : (h : Header) (J : List Record) (lane : ℕ) → h.node < h.shape.coordinators → IsJournal h J → SlotFacts h lane (slot J lane)
 slot_facts h [] lane node j = absurd j
 slot_facts h (r ∷ []) lane node j = let P : Slot → Type 0 = λ s. SlotFacts h lane s in
-    subst P (sym (slot_is_by r [] lane)) (by_facts h lane (slot [] lane) (sets_of r) (set_facts h [] r node j.1) (inl refl))
+    subst P (sym (slot_is_by h r [] lane j.1.0)) (by_facts h lane (slot [] lane) (sets_of r) (set_facts h [] r node j.1) (inl refl))
 slot_facts h (r ∷ (q ∷ past)) lane node j = let P : Slot → Type 0 = λ s. SlotFacts h lane s in
-    subst P (sym (slot_is_by r (q ∷ past) lane)) (by_facts h lane (slot (q ∷ past) lane) (sets_of r) (set_facts h (q ∷ past) r node j.0)
+    subst P (sym (slot_is_by h r (q ∷ past) lane j.0.0)) (by_facts h lane (slot (q ∷ past) lane) (sets_of r) (set_facts h (q ∷ past) r node j.0)
     (slot_facts h (q ∷ past) lane node j.1))
 
 -- a prepared batch has from 1 to `batch` transactions
@@ -173,7 +176,7 @@ size_prepare h past stamp b txs lane size old phase = go (eqb_tells b.lane lane)
 size_more : (h : Header) (past : List Record) (r : Record) (lane : ℕ) → After h past r → SizeAt h lane past → SizeAt h lane (r ∷ past)
 unfolding sets_of
 size_more h past (Prepare stamp b txs) lane after old = size_prepare h past stamp b txs lane after.0.3 old
-size_more h past other lane after old = size_past h past other lane (sets_of other) (λ e. cc) (slot_is_by other past lane) (λ a. refl) old
+size_more h past other lane after old = size_past h past other lane (sets_of other) (λ e. cc) (slot_is_by h other past lane after.0) (λ a. refl) old
 
 pub prepared_size : (h : Header) (J : List Record) (lane : ℕ) → IsJournal h J → (slot J lane).phase ≡ InPrepare
     → HasSize h.shape (txs_of J (open_batch J lane))

@@ -21,6 +21,7 @@ stands_same c d past same stands = record {
   slots = λ lane own. same.slots lane ∙ stands.slots lane (owned lane own);
   masks = λ lane own phase. same.masks lane ∙ stands.masks lane (owned lane own) phase
       ∙ ap (λ h. masks_of h.shape (txs_of past (open_batch past lane))) (sym same.header);
+  unsealed = stands.unsealed;
 }
   where
     owned : (lane : ℕ) → IsOwnLane d.header lane → IsOwnLane c.header lane

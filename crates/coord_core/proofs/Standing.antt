@@ -8,6 +8,7 @@ use Rattle.std.proofs.Math.Nat.{div-add-mod}
 use Rattle.std.specs.Prelude.{All}
 use Rattle.cbdc_model.specs.Records.{Header, Record, Batch, Compact, Outcome, same_batch, txs_of, Start, Prepare, Commit, Discard, Done}
 use Rattle.cbdc_model.specs.Slots.{Slot, slot, Idle, InPrepare, InCommit, InDiscard}
+use Rattle.cbdc_model.specs.After.{IsUnsealed}
 use Rattle.cbdc_model.specs.Due.{open_batch}
 use Rattle.coord_core.specs.Masks.{masks_of}
 use Rattle.coord_core.specs.Lanes.{CoordOf, CoordLaneOf, no_lane, IsOwnLane, coord_lane, with_lane, with_prepared, CoordTakes, CoordAdmits}
@@ -139,10 +140,12 @@ prepare_masks c d past stamp b txs is stands own lt q own' phase =
 -- one record more
 pub stands_next : (c d : CoordOf) (past : List Record) (r : Record) → IsCoordWhole c → CoordStands c past → CoordAdmits c r → CoordTakes c d r
     → CoordStands d (r ∷ past)
+unfolding IsUnsealed
 stands_next c d past (Prepare stamp b txs) whole stands next takes = record {
   last = ap (λ x. x.last) takes;
   slots = slots_set c d past (Prepare stamp b txs) stamp b.lane l takes stands next.0.0.0 lt (sets_prepare past stamp b txs);
   masks = prepare_masks c d past stamp b txs takes stands next.0.0.0 lt;
+  unsealed = stands.unsealed;
 }
   where
     lt : b.lane % c.header.shape.lanes < length c.lanes
@@ -154,6 +157,7 @@ stands_next c d past (Commit stamp b os) whole stands next takes = record {
   last = ap (λ x. x.last) takes;
   slots = slots_set c d past (Commit stamp b os) stamp b.lane l takes stands next.0.0 lt (sets_commit past stamp b os);
   masks = masks_kept c d past (Commit stamp b os) stamp b.lane l takes stands next.0.0 (sets_commit past stamp b os) (λ x. refl) (λ e. cc);
+  unsealed = stands.unsealed;
 }
   where
     lt : b.lane % c.header.shape.lanes < length c.lanes
@@ -165,6 +169,7 @@ stands_next c d past (Discard stamp b) whole stands next takes = record {
   last = ap (λ x. x.last) takes;
   slots = slots_set c d past (Discard stamp b) stamp b.lane l takes stands next.0.0 lt (sets_discard past stamp b);
   masks = masks_kept c d past (Discard stamp b) stamp b.lane l takes stands next.0.0 (sets_discard past stamp b) (λ x. refl) (λ e. cc);
+  unsealed = stands.unsealed;
 }
   where
     lt : b.lane % c.header.shape.lanes < length c.lanes
@@ -176,6 +181,7 @@ stands_next c d past (Done stamp b) whole stands next takes = record {
   last = ap (λ x. x.last) takes;
   slots = slots_set c d past (Done stamp b) stamp b.lane l takes stands next.0.0 lt (sets_done past stamp b);
   masks = masks_kept c d past (Done stamp b) stamp b.lane l takes stands next.0.0 (sets_done past stamp b) (λ x. refl) (λ e. cc);
+  unsealed = stands.unsealed;
 }
   where
     lt : b.lane % c.header.shape.lanes < length c.lanes
@@ -187,10 +193,12 @@ stands_next c d past other whole stands next takes = absurd next
 
 -- behind the first record no lane has a batch
 pub stands_first : (h : Header) (c : CoordOf) → IsFreshCoord h c → CoordStands c (Start h ∷ [])
+unfolding IsUnsealed
 stands_first h c fresh = record {
   last = fresh.last;
   slots = λ lane own. (idle_at (lane % c.header.shape.lanes) c.lanes fresh.lanes).slot;
   masks = λ lane own phase. cc;
+  unsealed = tt;
 }
   where
     idle_at : (i : ℕ) (ls : List CoordLaneOf) → All IsIdleLane ls → IsIdleLane (get_or ls i no_lane)

@@ -50,6 +50,7 @@ impl CoordCore {
     ghost use Rattle.coord_core.specs.Lanes.{IsCoordWhole};
 
     /// The lanes of a coordinator without a batch. Its header names a coordinator.
+    #[tactic(auto, unfolding(cbdc_model::specs::After::IsUnsealed))]
     pub fn new(alloc: Global, header: &Header) -> Result<CoordCore, AllocError>
         requires { header.now.node < header.now.shape.coordinators }
         ensures fresh { IfOk result (IsFreshCoord header.now) }

@@ -6,9 +6,11 @@ use cbdc_types::{CompactTx, Hash, Shape};
 use shard_ranges::shard_of;
 
 // The mask with the bits of these hashes' shards set too.
+#[tactic(auto, using(crate::proofs::Walks::marked_step))]
 fn mark(shape: &Shape, mask: u64, hashes: &[Hash]) -> u64
     ensures { result ≡ marked shape.now mask hashes.now }
 {
+    let _shards = shape.shards();
     let mut marks = mask;
     for x in hashes {
         marks |= 1 << shard_of(x, shape);

@@ -1,16 +1,16 @@
 // What the records of a lane's open batch hold.
 ghost use Rattle.std.specs.Prelude.{◌≡◌, ◌≤◌, ◌==◌, ◌&&◌, length, reverse, [], Some, IfOk};
 ghost use Rattle.std.specs.Vec.{vec_capacity};
-ghost use Rattle.cbdc_model.specs.Records.{kind_of, is_of, is_in_lane, stamp_in, txs_in, outcomes_in, txs_of as journal_txs, outcomes_of as journal_outcomes};
+ghost use Rattle.cbdc_model.specs.Records.{kind_of, is_of, tells_lane, stamp_in, txs_in, outcomes_in, txs_of as journal_txs, outcomes_of as journal_outcomes};
 ghost use Rattle.cbdc_model.specs.Slots.{slot_stamp};
 
 use cbdc_types::{BatchId, CompactTx, LaneId, List, Outcome, Outcomes, Record, Stamp};
 use coord_core::copied_txs;
 use std::alloc::{AllocError, Global};
 
-// Whether a record is of this lane.
-fn is_of_lane(written: &Record, lane: LaneId) -> bool
-    ensures { result ≡ is_in_lane lane written.now }
+// Whether a record tells what this lane's last batch is.
+fn tells_lane(written: &Record, lane: LaneId) -> bool
+    ensures { result ≡ tells_lane lane written.now }
 {
     match written {
         Record::Genesis { .. } => false,
@@ -29,7 +29,7 @@ fn is_of_lane(written: &Record, lane: LaneId) -> bool
     }
 }
 
-// The stamp of a record, 0 for a first one.
+// The stamp of a record, 0 for a first one of a mint.
 fn stamp_at(written: &Record) -> Stamp
     ensures { result ≡ stamp_in (Some written.now) }
 {
@@ -100,7 +100,7 @@ pub(crate) fn stamp_of(records: &[Record], lane: LaneId) -> Stamp
     ensures { result ≡ slot_stamp (reverse records.now) lane }
 {
     'records: for i in (0..records.len()).rev() {
-        if is_of_lane(&records[i], lane) {
+        if tells_lane(&records[i], lane) {
             return stamp_at(&records[i]);
         }
     }

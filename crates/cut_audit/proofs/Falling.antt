@@ -67,6 +67,7 @@ inside K id node past (Prepare stamp b txs) a = omega (arith, a.0.2)
 inside K id node past (Commit stamp b os) a = omega (arith, a.0.2)
 inside K id node past (Discard stamp b) a = omega (arith, a.0.2)
 inside K id node past (Done stamp b) a = omega (arith, a.0.2)
+inside K id node past other a = absurd a.0
 
 module _ (K : Shape) (m : Minted) (P : Compact → Type 0) where
   first_falls : (n : ℕ) → Falls (journal n (first_rows K m))

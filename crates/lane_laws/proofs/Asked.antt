@@ -8,7 +8,7 @@ use Rattle.cbdc_types.specs.declared.calls.ForgetCall.{ForgetCall}
 use Rattle.cbdc_types.specs.declared.calls.Replied.{Replied}
 use Rattle.cbdc_types.specs.declared.calls.NodeFault.{NodeFault}
 use Rattle.cbdc_types.specs.declared.calls.NodeFault.TheVariants.{Broken}
-use Rattle.cbdc_model.specs.Records.{Batch, Compact, Entry, Digest, Outcome, Record, Shape, is_held, is_in_lane, record_of, lock_of, last_stamp}
+use Rattle.cbdc_model.specs.Records.{Batch, Compact, Entry, Digest, Outcome, Record, Shape, is_held, tells_lane, record_of, lock_of, last_stamp}
 use Rattle.cbdc_model.specs.Records.{stamp_in, txs_in, outcomes_in, entries_in, Finish, Forget, Prepare, Commit, Discard}
 use Rattle.cbdc_model.specs.Replies.{entries, answered, reply_to}
 use Rattle.cbdc_model.specs.Causes.{IsCaused}
@@ -36,7 +36,7 @@ OkUnless fails a = (fails ≡ true) ⊎ Fine a
 
 -- the record is the lane's, and was caused by what the lane saw
 abbrev pub Owes : Shape → List (List Compact) → ℕ → (ℕ → List Record) → ℕ → List Record → Record → Type 0
-Owes K pieces lane I n found r = (is_in_lane lane r ≡ true) × Holds pieces r × IsCaused K (replaced I n found) n r
+Owes K pieces lane I n found r = (tells_lane lane r ≡ true) × Holds pieces r × IsCaused K (replaced I n found) n r
 
 pub call_step : {A : Type 0} (K : Shape) (pieces : List (List Compact)) (alone : Bool) (lane : ℕ) (fails memory : Bool) (I : ℕ → List Record) (n : ℕ)
     (old new : Sight)

@@ -1,7 +1,7 @@
 -- A whole new batch of a settled lane: exactly its records, and the lane is settled again.
 use Rattle.std.proofs.Common.{◌≡◌, ◌⊎◌, inl, inr, ℕ, suc, ◌<◌, Bool, true, false, ◌&&◌, ◌==◌, if◌then◌else◌, List, [], ◌∷◌, ◌++◌, Some, None, refl}
 use Rattle.std.proofs.Common.{sym, ap, ◌∙◌, subst, arith}
-use Rattle.cbdc_model.specs.Records.{Batch, same_batch, Compact, Entry, Outcome, Record, Shape, is_in_lane, kind_of, is_of, record_of, last_stamp}
+use Rattle.cbdc_model.specs.Records.{Batch, same_batch, Compact, Entry, Outcome, Record, Shape, tells_lane, kind_of, is_of, record_of, last_stamp}
 use Rattle.cbdc_model.specs.Records.{stamp_in, Lock, Finish, Forget, Prepare, Commit, Discard, Done}
 use Rattle.cbdc_model.specs.Slots.{slot, slot_stamp, Idle, InLock, InPrepare}
 use Rattle.cbdc_model.specs.Outcomes.{decisions}
@@ -23,10 +23,10 @@ use Rattle.lane_laws.proofs.Runs.{PreparedRun, prepared_run, same_record}
 slot_front : (lane : ℕ) (L X : List Record) (r : Record) → own lane L ≡ r ∷ X → slot L lane ≡ slot (r ∷ X) lane
 slot_front lane L X r e = slot_own lane L ∙ ap (λ K. slot K lane) e
 
-stamp_front : (lane : ℕ) (L X : List Record) (r : Record) → own lane L ≡ r ∷ X → is_in_lane lane r ≡ true → slot_stamp L lane ≡ stamp_in (Some r)
+stamp_front : (lane : ℕ) (L X : List Record) (r : Record) → own lane L ≡ r ∷ X → tells_lane lane r ≡ true → slot_stamp L lane ≡ stamp_in (Some r)
 stamp_front lane L X r e i = stamp_own lane L ∙ ap (λ K. slot_stamp K lane) e ∙ first lane r X i
   where
-    first : (lane : ℕ) (r : Record) (J : List Record) → is_in_lane lane r ≡ true → slot_stamp (r ∷ J) lane ≡ stamp_in (Some r)
+    first : (lane : ℕ) (r : Record) (J : List Record) → tells_lane lane r ≡ true → slot_stamp (r ∷ J) lane ≡ stamp_in (Some r)
     first lane r J h = rw h
 
 not_here : (kind : ℕ) (b : Batch) (r : Record) (J : List Record) → is_of b r ≡ false → record_of kind (r ∷ J) b ≡ record_of kind J b

@@ -4,7 +4,7 @@ use Rattle.std.proofs.Common.{sym, ap, subst, arith}
 use Rattle.std.specs.Prelude.{All, get_or}
 use Rattle.std.proofs.lemmas.List.Elements.{All-nil, All-head, All-tail}
 use Rattle.cbdc_model.specs.Records.{Shape, Batch, Record, same_batch, kind_of, is_of, record_of, last_stamp, Genesis, Lock, Finish, Forget, Start}
-use Rattle.cbdc_model.specs.Records.{Prepare, Commit, Discard, Done}
+use Rattle.cbdc_model.specs.Records.{Prepare, Commit, Discard, Done, Upgrade, Carry, CarryStart, Seal}
 use Rattle.cbdc_model.specs.Ranges.{home_of}
 use Rattle.cbdc_model.specs.Slots.{slot, slot_stamp, Idle}
 use Rattle.cbdc_model.specs.Sights.{Sight}
@@ -30,6 +30,10 @@ not_of (Prepare stamp c txs) b lane k low same high = another c b lane k low sam
 not_of (Commit stamp c os) b lane k low same high = another c b lane k low same high
 not_of (Discard stamp c) b lane k low same high = another c b lane k low same high
 not_of (Done stamp c) b lane k low same high = another c b lane k low same high
+not_of (Upgrade stamp batch) b lane k low same high = refl
+not_of (Carry stamp header source hs numbers) b lane k low same high = refl
+not_of (CarryStart stamp header source numbers) b lane k low same high = refl
+not_of (Seal stamp to shards) b lane k low same high = refl
 
 never : (a : Bool) → (a && false) ≡ false
 never true = refl

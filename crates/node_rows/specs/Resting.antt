@@ -1,6 +1,7 @@
 -- Where a lane rests: its batches up to a number are over there.
 use Rattle.std.specs.Prelude.{◌≡◌, ℕ, suc, ◌+◌, ◌*◌, ◌<◌, ◌≤◌, ◌==◌, if◌then◌else◌, List, [], ◌∷◌, length, All}
-use Rattle.cbdc_model.specs.Records.{Shape, Record, Genesis, Lock, Finish, Forget, Start, Prepare, Commit, Discard, Done}
+use Rattle.cbdc_model.specs.Records.{Shape, Record, Genesis, Lock, Finish, Forget, Start, Prepare, Commit, Discard, Done, Upgrade}
+use Rattle.cbdc_model.specs.Records.{Carry, CarryStart, Seal}
 use Rattle.cbdc_model.specs.Slots.{slot, slot_stamp, Idle}
 use Rattle.cbdc_model.specs.Ranges.{home_of}
 use Rattle.lane_driver.specs.Told.{IsLane, AreShardsOf}
@@ -8,7 +9,7 @@ use Rattle.lane_driver.specs.Stops.{IsLaneSettled}
 use Rattle.node_journal.specs.Nodes.{NodeOf, sight}
 use Rattle.node_ports.specs.Nodes.{sight_at}
 
--- the number of a record's batch, 0 of a first record and of another lane's
+-- the number of a record's batch, 0 of a record of no batch and of another lane's
 abbrev pub number_of_lane : ℕ → Record → ℕ
 number_of_lane lane (Genesis header hs) = 0
 number_of_lane lane (Lock stamp b es) = if b.lane == lane then b.number else 0
@@ -19,6 +20,10 @@ number_of_lane lane (Prepare stamp b txs) = if b.lane == lane then b.number else
 number_of_lane lane (Commit stamp b os) = if b.lane == lane then b.number else 0
 number_of_lane lane (Discard stamp b) = if b.lane == lane then b.number else 0
 number_of_lane lane (Done stamp b) = if b.lane == lane then b.number else 0
+number_of_lane lane (Upgrade stamp batch) = 0
+number_of_lane lane (Carry stamp header source hs numbers) = 0
+number_of_lane lane (CarryStart stamp header source numbers) = 0
+number_of_lane lane (Seal stamp to shards) = 0
 
 -- at a shard of this place, whose last record of the lane has a stamp no later than that
 pub record RestsAt {D : Type 0} (K : Shape) (lane k stamp s : ℕ) (n : NodeOf D) : Type 0 where

@@ -66,6 +66,10 @@ fn number_in(lane: LaneId, r: &Record) -> u64
         Record::Commit { batch, .. } => own_number(lane, batch),
         Record::Discard { batch, .. } => own_number(lane, batch),
         Record::Done { batch, .. } => own_number(lane, batch),
+        Record::Upgrade { .. } => 0,
+        Record::Carry { .. } => 0,
+        Record::CarryStart { .. } => 0,
+        Record::Seal { .. } => 0,
     }
 }
 

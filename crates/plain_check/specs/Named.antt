@@ -10,7 +10,7 @@ abbrev pub entry_hashes : List Answered → List Digest
 entry_hashes [] = []
 entry_hashes (a ∷ es) = a.entry.inputs ++ (a.entry.outputs ++ entry_hashes es)
 
--- the hashes that a journal's Genesis and Finishes name
+-- the hashes that a journal's first record and Finishes name
 abbrev pub named_hashes : List Record → List Digest
 named_hashes [] = []
 named_hashes (Genesis header hs ∷ past) = hs ++ named_hashes past

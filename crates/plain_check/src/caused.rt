@@ -195,5 +195,13 @@ pub fn is_caused(
             let kind = RecordKind::Forget as u64;
             Ok(is_behind_all(journals, shape, node, *stamp, kind, batch))
         }
+        Record::Upgrade { stamp, .. } => {
+            Ok(is_stamped(*stamp, journal_at(journals, node.0), Stamp(0)))
+        }
+        Record::Carry { .. } => Ok(true),
+        Record::CarryStart { .. } => Ok(true),
+        Record::Seal { stamp, .. } => {
+            Ok(is_stamped(*stamp, journal_at(journals, node.0), Stamp(0)))
+        }
     }
 }

@@ -35,11 +35,5 @@ pub fn is_own_part(shape: &Shape, node: NodeId, txs: &[CompactTx], entries: &[En
     if node.0 < shape.coordinators() {
         return true;
     }
-    is_part_of(
-        shape,
-        node.0 - shape.coordinators(),
-        0,
-        txs,
-        entries,
-    )
+    is_part_of(shape, node.0 - shape.coordinators(), 0, txs, entries)
 }

@@ -42,6 +42,13 @@ fn hash_bytes(m: usize, n: usize) -> u64
     (m as u64).saturating_add(n as u64).saturating_mul(32)
 }
 
+// 8 bytes for each of n numbers.
+fn number_bytes(n: usize) -> u64
+    ensures { result ≡ min (8 * n) (2 ^ 64 - 1) }
+{
+    (n as u64).saturating_mul(8)
+}
+
 fn compact_bytes(t: &CompactTx) -> u64
     ensures { result ≡ min (compact_size t.now) (2 ^ 64 - 1) }
 {
@@ -95,6 +102,16 @@ fn record_bytes(r: &Record) -> u64
         Record::Prepare { txs, .. } => compact_sizes(txs.as_slice()).saturating_add(42),
         Record::Commit { outcomes, .. } => outcome_sizes(outcomes.as_slice()).saturating_add(42),
         Record::Forget { .. } | Record::Discard { .. } | Record::Done { .. } => 34,
+        Record::Upgrade { .. } => 26,
+        Record::Carry {
+            hashes,
+            numbers,
+            ..
+        } => hash_bytes(hashes.len(), 0)
+            .saturating_add(number_bytes(numbers.len()))
+            .saturating_add(122),
+        Record::CarryStart { numbers, .. } => number_bytes(numbers.len()).saturating_add(114),
+        Record::Seal { .. } => 34,
     }
 }
 

@@ -110,6 +110,13 @@ pub fn status_of(past: &[Record], x: &Hash) -> Status
                 status_of(rest, x)
             }
         }
+        Record::Carry { hashes, .. } => {
+            if has(hashes.as_slice(), x) {
+                Status::Unspent
+            } else {
+                status_of(rest, x)
+            }
+        }
         Record::Lock { batch, entries, .. } => {
             if is_held_input(entries.as_slice(), x) {
                 Status::Locked(*batch)

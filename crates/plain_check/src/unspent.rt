@@ -41,7 +41,7 @@ fn add_entries(es: &[Answered], out: &mut Vec<Hash>) -> Result<(), AllocError>
     }
 }
 
-// Puts the hashes that a journal's Genesis and Finishes name behind those so far.
+// Puts the hashes that a journal's first record and Finishes name behind those so far.
 fn add_named(past: &[Record], out: &mut Vec<Hash>) -> Result<(), AllocError>
     ensures { OnOk result (out.new.items ≡ out.old.items ++ named_hashes past.now) }
 {
@@ -50,6 +50,7 @@ fn add_named(past: &[Record], out: &mut Vec<Hash>) -> Result<(), AllocError>
     };
     match r {
         Record::Genesis { hashes, .. } => put_slice(out, hashes.as_slice())?,
+        Record::Carry { hashes, .. } => put_slice(out, hashes.as_slice())?,
         Record::Finish { batch, .. } => add_entries(lock_of(rest, batch), out)?,
         _ => {}
     }

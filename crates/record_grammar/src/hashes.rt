@@ -27,7 +27,7 @@ pub(crate) fn is_hash_list(xs: &[Hash]) -> bool
 }
 
 fn is_here(h: &Header, x: &Hash) -> bool
-    ensures { IsTrue result ↔ (shard_node h.now.shape (the_shard h.now.shape.shards x.now) ≡ h.now.node) }
+    ensures { IsTrue result ↔ (shard_node h.now.shape (the_shard h.now.shape x.now) ≡ h.now.node) }
 {
     h.shape.coordinators() + shard_of(x, &h.shape) == h.node.0
 }

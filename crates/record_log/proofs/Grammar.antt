@@ -95,6 +95,7 @@ fits_record h (Commit stamp b os) limits is = (
 )
 fits_record h (Discard stamp b) limits is = fits_later h.shape stamp b limits is.0 is.1
 fits_record h (Done stamp b) limits is = fits_later h.shape stamp b limits is.0 is.1
+fits_record h other limits is = is
 
 -- ---- bodies
 
@@ -120,9 +121,9 @@ no_fault bytes r f e g = absurd (cc)
 
 pub is_read_first : (bytes : List ℕ) (r : Record) → IsFirstBody bytes r → body_at bytes ≡ Ok (r, [])
 is_read_first bytes (Genesis header hs) is = is_read header bytes (Genesis header hs) is.1.0 (is.0, is.1.1)
-is_read_first bytes (Carry stamp header source hs numbers) is = is_read header bytes (Carry stamp header source hs numbers) is.1.0 (is.0, is.1.1)
 is_read_first bytes (Start header) is = is_read header bytes (Start header) is.1.0 (is.0, is.1.1)
-is_read_first bytes (CarryStart stamp header source numbers) is = is_read header bytes (CarryStart stamp header source numbers) is.1.0 (is.0, is.1.1)
+is_read_first bytes (Carry stamp header source hs numbers) is = absurd is.1.1
+is_read_first bytes (CarryStart stamp header source numbers) is = absurd is.1.1
 is_read_first bytes other is = absurd is.1
 
 -- ---- laws

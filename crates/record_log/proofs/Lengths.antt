@@ -137,3 +137,4 @@ body_length (Commit stamp b os) fits = omega (
 )
 body_length (Discard stamp b) fits = omega (arith, batch_head 8 stamp b)
 body_length (Done stamp b) fits = omega (arith, batch_head 9 stamp b)
+body_length other fits = absurd fits

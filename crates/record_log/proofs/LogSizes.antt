@@ -35,7 +35,6 @@ compact_le t is = omega (arith, is.inputs.0, is.outputs.0)
 -- a record of the grammar takes less than 32 MiB
 pub size_small : (h : Header) (r : Record) → IsWithinLimits h.shape → IsInGrammar h r → size_of r < 2 ^ 25
 size_small h (Genesis header hs) limits is = omega (arith, is.3)
-size_small h (Carry stamp header source hs numbers) limits is = omega (arith, is.3)
 size_small h (Lock stamp b es) limits is =
     omega (
       arith,
@@ -53,6 +52,8 @@ size_small h (Commit stamp b os) limits is =
       limits.batch,
       sum_by-le outcome_size 57 os (All-weaker (IsOutcome h.shape) (λ o. outcome_size o ≤ 57) (λ o i. outcome_le o) os is.4),
     )
+size_small h (Carry stamp header source hs numbers) limits is = absurd is
+size_small h (CarryStart stamp header source numbers) limits is = absurd is
 size_small h other limits is = omega arith
 
 -- a gate, a length and the body
@@ -64,16 +65,16 @@ body_small h r limits is = omega (arith, size_is h r limits is, size_small h r l
 
 pub first_small : (r : Record) → IsFirstRecord r → length (body_of r) < 2 ^ 64
 first_small (Genesis header hs) is = body_small header (Genesis header hs) is.0 is.1
-first_small (Carry stamp header source hs numbers) is = body_small header (Carry stamp header source hs numbers) is.0 is.1
 first_small (Start header) is = body_small header (Start header) is.0 is.1
-first_small (CarryStart stamp header source numbers) is = body_small header (CarryStart stamp header source numbers) is.0 is.1
+first_small (Carry stamp header source hs numbers) is = absurd is.1
+first_small (CarryStart stamp header source numbers) is = absurd is.1
 first_small other is = absurd is
 
 first_limits : (h : Header) (r : Record) → IsFirstRecord r → IsInGrammar h r → IsWithinLimits h.shape
 first_limits h (Genesis header hs) is may = subst (λ (k : Header). IsWithinLimits k.shape) may.0 is.0
-first_limits h (Carry stamp header source hs numbers) is may = subst (λ (k : Header). IsWithinLimits k.shape) may.0 is.0
 first_limits h (Start header) is may = subst (λ (k : Header). IsWithinLimits k.shape) may.0 is.0
-first_limits h (CarryStart stamp header source numbers) is may = subst (λ (k : Header). IsWithinLimits k.shape) may.0 is.0
+first_limits h (Carry stamp header source hs numbers) is may = absurd may
+first_limits h (CarryStart stamp header source numbers) is may = absurd may
 first_limits h other is may = absurd is
 
 -- the header of a journal is within its limits

@@ -1,5 +1,5 @@
 -- Records: what is read of a body is spelled so, and what is spelled so is read again, whatever follows.
-use Rattle.std.proofs.Common.{◌≡◌, ℕ, ◌^◌, ◌<◌, ◌≤◌, Bool, true, false, ◌&&◌, cond, eqb, leb, inl, inr, List, ◌∷◌, ◌++◌, length, Result, Ok, Err}
+use Rattle.std.proofs.Common.{◌≡◌, ℕ, ◌^◌, ◌<◌, ◌≤◌, Bool, true, false, ◌&&◌, cond, eqb, leb, inl, inr, List, [], ◌∷◌, ◌++◌, length, Result, Ok, Err}
 use Rattle.std.proofs.Common.{refl, sym, ap, subst, ◌∙◌, append_assoc, arith, bytes_eq}
 use Rattle.std.proofs.lemmas.Bool.{eqb-true, eq-eqb, leb-true, le-leb}
 use Rattle.std.proofs.lemmas.Slice.Eq.{bytes_eq-Decides}
@@ -11,8 +11,9 @@ use Rattle.cbdc_types.specs.declared.batch.Outcome.{Outcome}
 use Rattle.cbdc_types.specs.declared.record.Header.{Header}
 use Rattle.cbdc_types.specs.declared.record.Record.{Record}
 use Rattle.cbdc_types.specs.declared.record.Record.TheVariants.{Genesis, Lock, Finish, Forget, Start, Prepare, Commit, Discard, Done}
+use Rattle.cbdc_types.specs.declared.record.Record.TheVariants.{Upgrade, Carry, CarryStart, Seal}
 use Rattle.base_types.specs.declared.faults.InputKind.TheVariants.{Form}
-use Rattle.cbdc_model.specs.Records.{kind_of, Carry}
+use Rattle.cbdc_model.specs.Records.{kind_of}
 use Rattle.byte_fields.specs.declared.fault.Fault.{Fault}
 use Rattle.byte_fields.specs.Faults.{fault, IsBytes}
 use Rattle.byte_spelling.specs.Spelling.{number, counted, FitsNumber, FitsHash, FitsList}
@@ -50,6 +51,10 @@ FitsRecord (Prepare stamp b txs) = FitsHead (record { stamp = stamp; batch = b }
 FitsRecord (Commit stamp b os) = FitsHead (record { stamp = stamp; batch = b }) × FitsList 1024 FitsOutcome os
 FitsRecord (Discard stamp b) = FitsHead (record { stamp = stamp; batch = b })
 FitsRecord (Done stamp b) = FitsHead (record { stamp = stamp; batch = b })
+FitsRecord (Upgrade stamp batch) = ⊥
+FitsRecord (Carry stamp h source hs numbers) = ⊥
+FitsRecord (CarryStart stamp h source numbers) = ⊥
+FitsRecord (Seal stamp to shards) = ⊥
 
 -- ---- headers
 
@@ -193,6 +198,10 @@ record_rest (Prepare stamp b txs) = (number stamp ++ batch_bytes b) ++ counted c
 record_rest (Commit stamp b os) = (number stamp ++ batch_bytes b) ++ counted outcome_bytes os
 record_rest (Discard stamp b) = number stamp ++ batch_bytes b
 record_rest (Done stamp b) = number stamp ++ batch_bytes b
+record_rest (Upgrade stamp batch) = []
+record_rest (Carry stamp h source hs numbers) = []
+record_rest (CarryStart stamp h source numbers) = []
+record_rest (Seal stamp to shards) = []
 
 abbrev IsGenesis : Record → Type 0
 IsGenesis r = (z : ℕ) × (h : Header) × (hs : List (List ℕ)) × IsZero z × FitsHeader h × FitsList 1000000 FitsHash hs × (Genesis h hs ≡ r)
@@ -426,7 +435,6 @@ takes_1 whole t bytes r rest fits e =
 
 kind_small : (r : Record) → FitsByte (kind_of r)
 kind_small (Genesis h hs) = omega arith
-kind_small (Carry stamp h source hs numbers) = omega arith
 kind_small other = omega arith
 
 body_again : (whole : List ℕ) (r : Record) (rest : List ℕ) → FitsRecord r → from_1 whole (kind_of r) (record_rest r ++ rest) ≡ Ok (r, rest)
@@ -442,13 +450,16 @@ body_again whole (Commit stamp b xs) rest fits = commit_read.again (Commit stamp
     (record { stamp = stamp; batch = b }, xs, fits.0, fits.1, refl)
 body_again whole (Discard stamp b) rest fits = discard_read.again (Discard stamp b) rest (record { stamp = stamp; batch = b }, fits, refl)
 body_again whole (Done stamp b) rest fits = done_read.again (Done stamp b) rest (record { stamp = stamp; batch = b }, fits, refl)
+body_again whole other rest fits = absurd fits
 
-body_same : (r : Record) → kind_of r ∷ record_rest r ≡ body_of r
-body_same (Genesis h hs) = refl
-body_same (Carry stamp h source hs numbers) = refl
-body_same other = refl
+body_same : (r : Record) → FitsRecord r → kind_of r ∷ record_rest r ≡ body_of r
+body_same (Upgrade stamp batch) fits = absurd fits
+body_same (Carry stamp h source hs numbers) fits = absurd fits
+body_same (CarryStart stamp h source numbers) fits = absurd fits
+body_same (Seal stamp to shards) fits = absurd fits
+body_same other fits = refl
 
 pub body_read : IsRead body_at body_of FitsRecord
 unfolding body_at
 body_read = respells body_at (λ r. kind_of r ∷ record_rest r) body_of FitsRecord
-    (tagged_read from_1 kind_of record_rest FitsRecord kind_small takes_1 body_again) (λ r fits. body_same r)
+    (tagged_read from_1 kind_of record_rest FitsRecord kind_small takes_1 body_again) body_same

@@ -3,6 +3,7 @@ use Rattle.std.specs.Prelude.{ℕ, List, [], ◌∷◌, ◌++◌}
 use Rattle.cbdc_types.specs.declared.record.Header.{Header}
 use Rattle.cbdc_types.specs.declared.record.Record.{Record}
 use Rattle.cbdc_types.specs.declared.record.Record.TheVariants.{Genesis, Lock, Finish, Forget, Start, Prepare, Commit, Discard, Done}
+use Rattle.cbdc_types.specs.declared.record.Record.TheVariants.{Upgrade, Carry, CarryStart, Seal}
 use Rattle.byte_spelling.specs.Spelling.{number, counted}
 use Rattle.byte_fields.specs.Records.{hashes, batch_bytes, compact_bytes, answered_bytes, outcome_bytes, decision_bytes}
 use Rattle.cbdc_model.specs.Records.{genesis_kind, lock_kind, finish_kind, forget_kind, start_kind, prepare_kind, commit_kind, discard_kind}
@@ -21,7 +22,7 @@ header_bytes h = magic ++ number h.node ++ number h.shape.shards ++ number h.sha
 abbrev pub head : ℕ → ℕ → List ℕ
 head kind stamp = kind ∷ [] ++ number stamp
 
--- the one spelling of a record
+-- the one spelling of a record. An Upgrade, a Carry, a CarryStart and a Seal stand in no journal yet, and have no bytes
 abbrev pub body_of : Record → List ℕ
 body_of (Genesis h hs) = head genesis_kind 0 ++ header_bytes h ++ hashes hs
 body_of (Lock stamp b es) = head lock_kind stamp ++ batch_bytes b ++ counted answered_bytes es
@@ -32,3 +33,7 @@ body_of (Prepare stamp b txs) = head prepare_kind stamp ++ batch_bytes b ++ coun
 body_of (Commit stamp b os) = head commit_kind stamp ++ batch_bytes b ++ counted outcome_bytes os
 body_of (Discard stamp b) = head discard_kind stamp ++ batch_bytes b
 body_of (Done stamp b) = head done_kind stamp ++ batch_bytes b
+body_of (Upgrade stamp batch) = []
+body_of (Carry stamp h source hs numbers) = []
+body_of (CarryStart stamp h source numbers) = []
+body_of (Seal stamp to shards) = []

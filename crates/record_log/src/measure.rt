@@ -122,5 +122,10 @@ pub(crate) fn length_of_body(record: &Record) -> u64
         } => length_of_list(outcomes).saturating_add(25),
         Record::Discard { stamp: _, batch: _ } => 25,
         Record::Done { stamp: _, batch: _ } => 25,
+        // No bytes have these yet.
+        Record::Upgrade { .. } => 0,
+        Record::Carry { .. } => 0,
+        Record::CarryStart { .. } => 0,
+        Record::Seal { .. } => 0,
     }
 }

@@ -31,6 +31,13 @@ fn bytes_of_hashes(m: usize, n: usize) -> u64
     (m as u64).saturating_add(n as u64).saturating_mul(32)
 }
 
+// 8 bytes for each of so many numbers, or the greatest number where that is past it.
+fn bytes_of_numbers(n: usize) -> u64
+    ensures { result ≡ min (8 * n) (2 ^ 64 - 1) }
+{
+    (n as u64).saturating_mul(8)
+}
+
 fn bytes_of_compact(t: &CompactTx) -> u64
     ensures { result ≡ min (compact_size t.now) (2 ^ 64 - 1) }
 {
@@ -107,5 +114,26 @@ pub fn size_of_record(record: &Record) -> u64
         } => bytes_of_outcomes(outcomes.as_slice()).saturating_add(42),
         Record::Discard { stamp: _, batch: _ } => 34,
         Record::Done { stamp: _, batch: _ } => 34,
+        Record::Upgrade { stamp: _, batch: _ } => 26,
+        Record::Carry {
+            stamp: _,
+            header: _,
+            source: _,
+            hashes,
+            numbers,
+        } => bytes_of_hashes(hashes.len(), 0)
+            .saturating_add(bytes_of_numbers(numbers.len()))
+            .saturating_add(122),
+        Record::CarryStart {
+            stamp: _,
+            header: _,
+            source: _,
+            numbers,
+        } => bytes_of_numbers(numbers.len()).saturating_add(114),
+        Record::Seal {
+            stamp: _,
+            to: _,
+            shards: _,
+        } => 34,
     }
 }

@@ -109,6 +109,11 @@ fn put_body(record: &Record, out: &mut Vec<u8>) -> Result<(), AllocError>
             batch,
         ),
         Record::Done { stamp, batch } => put_batch(out, RecordKind::Done as u8, stamp.0, batch),
+        // No bytes have these yet.
+        Record::Upgrade { .. } => Ok(()),
+        Record::Carry { .. } => Ok(()),
+        Record::CarryStart { .. } => Ok(()),
+        Record::Seal { .. } => Ok(()),
     }
 }
 

@@ -1,7 +1,7 @@
 -- In kept journals a lane that is not idle at its coordinator is open there as recovery wants it.
 use Rattle.std.proofs.Common.{◌≡◌, ◌⊎◌, inl, inr, ℕ, suc, ◌^◌, ◌<◌, ◌≤◌, Bool, true, false, ◌&&◌, not, nat_lt, List, [], ◌∷◌, ◌++◌, length, Option}
 use Rattle.std.proofs.Common.{Some, None, is_some, refl, sym, ap, ◌∙◌, subst, arith}
-use Rattle.cbdc_model.specs.Records.{Shape, Batch, Compact, Entry, Answered, Record, Row, journal, record_of, is_in_lane, lock_of, txs_of}
+use Rattle.cbdc_model.specs.Records.{Shape, Batch, Compact, Entry, Answered, Record, Row, journal, record_of, tells_lane, lock_of, txs_of}
 use Rattle.cbdc_model.specs.Records.{outcomes_of, stamp_in, stamp_of, Forget, Prepare, Commit, Discard, Done, Carry, CarryStart}
 use Rattle.cbdc_model.specs.Slots.{Phase, slot, slot_stamp, Idle, InLock, InFinish, InPrepare, InCommit, InDiscard}
 use Rattle.cbdc_model.specs.Grammar.{IsInGrammar}
@@ -221,7 +221,7 @@ module _ (K : Shape) (minting : Minted) (P : Compact → Type 0) (some : 0 < K.s
                 (sym (ap (λ q. q.phase) (slot_is (S s) b.lane ∙ ap (slot_by b.lane) e)) ∙ i)
           ] refl
         where
-          of_record : (r : Record) → last_of (S s) b.lane ≡ Some r → is_in_lane b.lane r ≡ true → (slot_by b.lane (Some r)).number ≡ b.number
+          of_record : (r : Record) → last_of (S s) b.lane ≡ Some r → tells_lane b.lane r ≡ true → (slot_by b.lane (Some r)).number ≡ b.number
               → (slot_by b.lane (Some r)).phase ≡ Idle
               → (is_some (record_of 4 (S s) b) ≡ true) × (stamp_in (record_of 4 (S s) b) ≡ slot_stamp (S s) b.lane)
           of_record (Forget stamp d) e l m i =

@@ -3,7 +3,7 @@
 use Rattle.std.proofs.Common.{◌≡◌, inl, inr, ℕ, ◌+◌, ◌-◌, ◌*◌, ◌<◌, ◌≤◌, Bool, true, false, ◌&&◌, ◌==◌, List, [], ◌∷◌, ◌++◌, length, reverse, Some}
 use Rattle.std.proofs.Common.{is_some, refl, sym, ap, ◌∙◌, subst, arith, append_assoc}
 use Rattle.std.specs.List.{filter}
-use Rattle.cbdc_model.specs.Records.{Shape, Batch, Compact, Entry, Answered, Outcome, Record, Row, journal, record_of, is_in_lane, is_of, txs_in}
+use Rattle.cbdc_model.specs.Records.{Shape, Batch, Compact, Entry, Answered, Outcome, Record, Row, journal, record_of, tells_lane, is_of, txs_in}
 use Rattle.cbdc_model.specs.Records.{lock_of, txs_of, Lock, Finish, Forget, Prepare, Commit, Discard, Done, Upgrade, Seal}
 use Rattle.cbdc_model.specs.Slots.{slot, InLock, InFinish, InPrepare, InCommit, InDiscard}
 use Rattle.cbdc_model.specs.Replies.{entries}
@@ -67,7 +67,7 @@ module _ (K : Shape) (m : Minted) (P : Compact → Type 0) (some : 0 < K.shards)
         ≤ total s.taken (E n) + sum_below (λ lane. B n lane (slot V lane).number) (K.coordinators * K.lanes)
 
     -- a record that weighs no more, with what is kept behind it, than what was kept and the batches that come with it
-    within_step : (n : ℕ) (rest : List Record) (r : Record) (lane : ℕ) → (IsFirst r → ⊥) → lane < K.coordinators * K.lanes → is_in_lane lane r ≡ true
+    within_step : (n : ℕ) (rest : List Record) (r : Record) (lane : ℕ) → (IsFirst r → ⊥) → lane < K.coordinators * K.lanes → tells_lane lane r ≡ true
         → s.taken r + kept_for s (r ∷ rest) lane + B n lane (slot rest lane).number ≤ kept_for s rest lane + B n lane (slot (r ∷ rest) lane).number
         → IsWithin n rest → IsWithin n (r ∷ rest)
     within_step n rest r lane new lt of own h =

@@ -118,7 +118,13 @@ pub fn is_entry_at(shape: &Shape, shard: u32, place: u64, t: &CompactTx, e: &Ent
 }
 
 /// Whether answered entries are those of a shard's part of the transactions from this place on.
-pub fn is_part_from(shape: &Shape, shard: u32, place: u64, txs: &[CompactTx], es: &[Answered]) -> bool
+pub fn is_part_from(
+    shape: &Shape,
+    shard: u32,
+    place: u64,
+    txs: &[CompactTx],
+    es: &[Answered],
+) -> bool
     requires places { place + length txs.now < 2 ^ 64 }
     ensures { IsTrue result ↔ (entries es.now ≡ part shape.now shard place txs.now) }
 {
