@@ -2,11 +2,11 @@ pub mod Winners
 pub mod Greatest
 pub mod Faulted
 pub mod Phasing
-pub mod Rising
 pub mod Rooming
 mod Filling
 pub mod Fitting
 pub mod Cutting
+mod Parting
 mod Telling
 mod Turning
 mod Batching

@@ -1,8 +1,7 @@
 // The memory of a batch.
-ghost use Rattle.std.specs.Prelude.{◌≡◌, ◌≤◌, ◌<◌, ◌^◌, [], length, IfOk, IsTrue, All};
+ghost use Rattle.std.specs.Prelude.{◌≡◌, ◌≤◌, ◌<◌, ◌^◌, [], length, IfOk, All};
 ghost use Rattle.std.specs.Vec.{vec_capacity, vec_len};
-ghost use Rattle.lane_driver.specs.Calls.{shard, AreParts};
-ghost use Rattle.lane_driver.specs.Told.{AreShards};
+ghost use Rattle.lane_driver.specs.Calls.{AreParts};
 ghost use Rattle.lane_driver.specs.Rooms.{IsBatchRoom, IsLaterRoom};
 
 use cbdc_types::{
@@ -60,33 +59,14 @@ impl LaterRoom {
     }
 }
 
-// Whether the shards rise and are among so many, and no part has more entries than that.
-fn is_division(parts: &[(u32, Part)], shards: u32, size: usize) -> bool
-    ensures shards { IsTrue result → AreShards shard shards parts.now }
-    ensures small { IsTrue result → All (λ p. length p.1 ≤ size) parts.now }
-{
-    let mut least = 0u64;
-    for (shard, part) in parts {
-        if u64::from(*shard) < least || *shard >= shards || part.len() > size {
-            return false;
-        }
-        least = u64::from(*shard) + 1;
-    }
-    true
-}
-
 impl BatchRoom {
-    /// The parts of these transactions, and the memory of their batch, or memory ran out. A division that is not in
-    /// order, which `split` never makes, is told so too.
+    /// The parts of these transactions, and the memory of their batch, or memory ran out.
     pub fn take(alloc: Global, shape: &Shape, txs: &[CompactTx]) -> Result<BatchRoom, AllocError>
         requires { length txs.now < 2 ^ 32 }
         ensures room { IfOk result (IsBatchRoom shape.now.shards (length txs.now)) }
         ensures parts { IfOk result (λ r. AreParts shape.now txs.now r.parts) }
     {
         let parts = split(alloc, txs, shape)?;
-        if !is_division(parts.as_slice(), shape.shards(), txs.len()) {
-            return Err(AllocError);
-        }
         let count = parts.len();
         Ok(BatchRoom {
             parts,

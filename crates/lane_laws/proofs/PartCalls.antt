@@ -10,7 +10,7 @@ use Rattle.lane_laws.specs.Parts.{IsFitPart}
 
 -- ---- the hashes on a shard
 
-fewer : (K : Shape) (s : ℕ) (xs : List Digest) → length (on_shard K s xs) ≤ length xs
+pub fewer : (K : Shape) (s : ℕ) (xs : List Digest) → length (on_shard K s xs) ≤ length xs
 fewer K s [] = omega arith
 fewer K s (x ∷ xs) =
     elim (shard_of K x == s) as (λ t. length (if t then x ∷ on_shard K s xs else on_shard K s xs) ≤ suc (length xs)) [
@@ -79,7 +79,7 @@ module _ (h : Header) (s : ℕ) (here : h.node ≡ shard_node h.shape s) where
 
 -- ---- places
 
-few : (K : Shape) (s k : ℕ) (txs : List Compact) → length (part K s k txs) ≤ length txs
+pub few : (K : Shape) (s k : ℕ) (txs : List Compact) → length (part K s k txs) ≤ length txs
 few K s k [] = omega arith
 few K s k (t ∷ ts) =
     elim (is_empty (on_shard K s t.inputs) && is_empty (on_shard K s t.outputs))

@@ -1,22 +1,20 @@
-use Rattle.std.proofs.Common.{◌≡◌, ℕ, ◌≤◌, ◌∙◌, List, length, refl, ap, sym, subst}
-use Rattle.std.specs.List.{All}
+use Rattle.std.proofs.Common.{◌≡◌, ℕ, ◌≤◌, ◌∙◌, List, length, ap, sym, subst}
 use Rattle.std.specs.Vec.{vec_capacity}
 use Rattle.cbdc_model.specs.Records.{Entry}
-use Rattle.lane_driver.specs.Calls.{shard, AreParts}
-use Rattle.lane_driver.specs.Told.{AreShards}
+use Rattle.lane_driver.specs.Calls.{AreParts}
 use Rattle.lane_driver.specs.Rooms.{IsLaterRoom}
+use Rattle.lane_driver.proofs.Parting.{parts_rise, parts_small}
 use Rattle.lane_driver.proofs.room.BatchRoom.take.Goals as goal
 
 pub returns-clause-room : goal.returns-clause-room
 returns-clause-room c =
     let same : c.in_ok-parts.parts ≡ c.parts.inside.items.items = sym {A = List (ℕ × List Entry)} c.parts.view_is in
+    let are : AreParts c.args.shape.now c.args.txs.now c.parts.inside.items.items =
+    subst (λ (ps : List (ℕ × List Entry)). AreParts c.args.shape.now c.args.txs.now ps) same c.in_ok-parts.ensures in
     let count : c.len-count.result ≡ length c.parts.inside.items.items = c.len-count.ensures ∙ ap length same in
     record {
-      parts = subst (λ n. AreShards shard n c.parts.inside.items.items) c.shards.ensures.value
-          (subst (λ (ps : List (ℕ × List Entry)). AreShards shard c.shards.result ps) (c.as_slice.ensures ∙ same)
-          (c.if-not-is_division.ensures.shards refl));
-      small = subst (λ (ps : List (ℕ × List Entry)). All (λ (p : ℕ × List Entry). length p.1 ≤ length c.args.txs.now) ps) (c.as_slice.ensures ∙ same)
-          (c.if-not-is_division.ensures.small refl);
+      parts = parts_rise c.args.shape.now c.args.txs.now c.parts.inside.items.items are;
+      small = parts_small c.args.shape.now c.args.txs.now c.parts.inside.items.items are;
       no_locks = c.in_ok-with_capacity.ensures.items;
       locks = subst (λ n. n ≤ vec_capacity c.in_ok-with_capacity.field-0) count c.in_ok-with_capacity.ensures.capacity;
       no_replied = c.in_ok-with_capacity-2.ensures.items;
