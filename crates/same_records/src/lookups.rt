@@ -1,6 +1,6 @@
 // What stands in records, and how one is found. A journal has its newest record first.
-ghost use Rattle.std.specs.Prelude.{◌≡◌, false, MatchOption};
-ghost use Rattle.cbdc_model.specs.Records.{Batch as ModelBatch, same_batch, stamp_of, kind_of, is_of, tells_lane, record_of, lock_of, txs_of, outcomes_of, last_stamp};
+ghost use Rattle.std.specs.Prelude.{◌≡◌, ◌==◌, ℕ, false, MatchOption};
+ghost use Rattle.cbdc_model.specs.Records.{Batch as ModelBatch, same_batch, stamp_of, kind_of, is_of, is_in_lane, tells_lane, record_of, lock_of, txs_of, outcomes_of, last_stamp};
 
 use crate::values::is_same_batch;
 use cbdc_types::{Answered, BatchId, CompactTx, LaneId, Outcome, Record, RecordKind, Stamp};
@@ -48,8 +48,10 @@ pub fn kind_of(r: &Record) -> u64
 
 /// The batch of a record, none of a first record, an Upgrade and a Seal.
 pub fn batch_of(r: &Record) -> Option<BatchId>
-    ensures { MatchOption result ((b : ModelBatch) → is_of b r.now ≡ false)
+    ensures batch { MatchOption result ((b : ModelBatch) → is_of b r.now ≡ false)
         (λ own. (b : ModelBatch) → is_of b r.now ≡ same_batch own b) }
+    ensures lane { MatchOption result ((lane : ℕ) → is_in_lane lane r.now ≡ false)
+        (λ own. (lane : ℕ) → is_in_lane lane r.now ≡ (own.lane == lane)) }
 {
     match r {
         Record::Lock { batch, .. } => Some(*batch),
