@@ -88,8 +88,7 @@ module _ (K : Shape) (mint : List Output) (handed : List FullTx) (rows : List Ro
   unspent : (x : Digest) → (IsUnspent K J x → InBook sound_past.book x) × (InBook sound_past.book x → IsUnspent K J x)
   unspent x =
       let law = unspent_is_book K mint handed steady.later totals shards clean (afters K mint steady.later steady.kept) spends sound_past x in
-      let at : journal (shard_node K (shard_of K.shards x)) past ≡ J (shard_node K (shard_of K.shards x)) =
-      steady.history (shard_node K (shard_of K.shards x)) in
+      let at : journal (shard_node K (shard_of K x)) past ≡ J (shard_node K (shard_of K x)) = steady.history (shard_node K (shard_of K x)) in
       (λ u. law.0 (ap (λ I. status I x) at ∙ u), λ i. ap (λ I. status I x) (sym at) ∙ law.1 i)
 
   done_past : (b : Batch) → has_prepare (journal (b.lane / K.lanes) past) b ≡ true → has_done (journal (b.lane / K.lanes) past) b ≡ true

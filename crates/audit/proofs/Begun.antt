@@ -37,19 +37,19 @@ abbrev hashes_below : Shape → (ℕ → List Record) → ℕ → List Digest
 hashes_below K X zero = []
 hashes_below K X (suc s) = hashes_below K X s ++ first_hashes (X (shard_node K s))
 
-on_both : (shards s : ℕ) (xs ys : List Digest) → on_shard shards s (xs ++ ys) ≡ on_shard shards s xs ++ on_shard shards s ys
-on_both shards s [] ys = refl
-on_both shards s (x ∷ xs) ys = elim (shard_of shards x == s) as
-    (λ c. (if c then x ∷ on_shard shards s (xs ++ ys) else on_shard shards s (xs ++ ys))
-    ≡ (if c then x ∷ on_shard shards s xs else on_shard shards s xs) ++ on_shard shards s ys) [
-      | true ↦ ap (λ l. x ∷ l) (on_both shards s xs ys)
-      | false ↦ on_both shards s xs ys
+on_both : (K : Shape) (s : ℕ) (xs ys : List Digest) → on_shard K s (xs ++ ys) ≡ on_shard K s xs ++ on_shard K s ys
+on_both K s [] ys = refl
+on_both K s (x ∷ xs) ys = elim (shard_of K x == s) as
+    (λ c. (if c then x ∷ on_shard K s (xs ++ ys) else on_shard K s (xs ++ ys))
+    ≡ (if c then x ∷ on_shard K s xs else on_shard K s xs) ++ on_shard K s ys) [
+      | true ↦ ap (λ l. x ∷ l) (on_both K s xs ys)
+      | false ↦ on_both K s xs ys
     ]
 
-here_is : (K : Shape) (s : ℕ) (x : Digest) → shard_node K (shard_of K.shards x) ≡ shard_node K s → (shard_of K.shards x == s) ≡ true
+here_is : (K : Shape) (s : ℕ) (x : Digest) → shard_node K (shard_of K x) ≡ shard_node K s → (shard_of K x == s) ≡ true
 here_is K s x h = grind (arith, h)
 
-away_is : (K : Shape) (s t : ℕ) (x : Digest) → t ≢ s → shard_node K (shard_of K.shards x) ≡ shard_node K t → (shard_of K.shards x == s) ≡ false
+away_is : (K : Shape) (s t : ℕ) (x : Digest) → t ≢ s → shard_node K (shard_of K x) ≡ shard_node K t → (shard_of K x == s) ≡ false
 away_is K s t x apart h = grind (arith, h, apart)
 
 taken : {A : Type 0} (c : Bool) (x y : A) → c ≡ true → (if c then x else y) ≡ x
@@ -60,44 +60,44 @@ passed : {A : Type 0} (c : Bool) (x y : A) → c ≡ false → (if c then x else
 passed true x y h = absurd (let z : true ≡ false = h in cc)
 passed false x y h = refl
 
-all_here : (K : Shape) (s : ℕ) (xs : List Digest) → AreHere K (shard_node K s) xs → on_shard K.shards s xs ≡ xs
+all_here : (K : Shape) (s : ℕ) (xs : List Digest) → AreHere K (shard_node K s) xs → on_shard K s xs ≡ xs
 all_here K s [] h = refl
 all_here K s (x ∷ xs) h =
-    taken (shard_of K.shards x == s) (x ∷ on_shard K.shards s xs) (on_shard K.shards s xs)
-    (here_is K s x (All-head (λ y. shard_node K (shard_of K.shards y) ≡ shard_node K s) x xs h))
-    ∙ ap (λ l. x ∷ l) (all_here K s xs (All-tail (λ y. shard_node K (shard_of K.shards y) ≡ shard_node K s) x xs h))
+    taken (shard_of K x == s) (x ∷ on_shard K s xs) (on_shard K s xs)
+    (here_is K s x (All-head (λ y. shard_node K (shard_of K y) ≡ shard_node K s) x xs h))
+    ∙ ap (λ l. x ∷ l) (all_here K s xs (All-tail (λ y. shard_node K (shard_of K y) ≡ shard_node K s) x xs h))
 
-none_here : (K : Shape) (s t : ℕ) (xs : List Digest) → t ≢ s → AreHere K (shard_node K t) xs → on_shard K.shards s xs ≡ []
+none_here : (K : Shape) (s t : ℕ) (xs : List Digest) → t ≢ s → AreHere K (shard_node K t) xs → on_shard K s xs ≡ []
 none_here K s t [] apart h = refl
 none_here K s t (x ∷ xs) apart h =
-    passed (shard_of K.shards x == s) (x ∷ on_shard K.shards s xs) (on_shard K.shards s xs)
-    (away_is K s t x apart (All-head (λ y. shard_node K (shard_of K.shards y) ≡ shard_node K t) x xs h))
-    ∙ none_here K s t xs apart (All-tail (λ y. shard_node K (shard_of K.shards y) ≡ shard_node K t) x xs h)
+    passed (shard_of K x == s) (x ∷ on_shard K s xs) (on_shard K s xs)
+    (away_is K s t x apart (All-head (λ y. shard_node K (shard_of K y) ≡ shard_node K t) x xs h))
+    ∙ none_here K s t xs apart (All-tail (λ y. shard_node K (shard_of K y) ≡ shard_node K t) x xs h)
 
 module _ (K : Shape) (X : ℕ → List Record) (here : (s : ℕ) → s < K.shards → AreHere K (shard_node K s) (first_hashes (X (shard_node K s)))) where
-  none_below : (s n : ℕ) → n ≤ s → n ≤ K.shards → on_shard K.shards s (hashes_below K X n) ≡ []
+  none_below : (s n : ℕ) → n ≤ s → n ≤ K.shards → on_shard K s (hashes_below K X n) ≡ []
   none_below s zero le low = refl
   none_below s (suc n) le low =
-      on_both K.shards s (hashes_below K X n) (first_hashes (X (shard_node K n)))
-      ∙ ap (λ l. l ++ on_shard K.shards s (first_hashes (X (shard_node K n)))) (none_below s n (omega (arith, le)) (omega (arith, low)))
+      on_both K s (hashes_below K X n) (first_hashes (X (shard_node K n)))
+      ∙ ap (λ l. l ++ on_shard K s (first_hashes (X (shard_node K n)))) (none_below s n (omega (arith, le)) (omega (arith, low)))
       ∙ none_here K s n (first_hashes (X (shard_node K n))) (λ e. absurd (omega (arith, e, le))) (here n (omega (arith, low)))
 
-  all_below : (s n : ℕ) → s < n → n ≤ K.shards → on_shard K.shards s (hashes_below K X n) ≡ first_hashes (X (shard_node K s))
+  all_below : (s n : ℕ) → s < n → n ≤ K.shards → on_shard K s (hashes_below K X n) ≡ first_hashes (X (shard_node K s))
   all_below s zero lt low = absurd (omega (arith, lt))
-  all_below s (suc n) lt low = on_both K.shards s (hashes_below K X n) (first_hashes (X (shard_node K n))) ∙ go (all_below s n) (eqb_tells s n)
+  all_below s (suc n) lt low = on_both K s (hashes_below K X n) (first_hashes (X (shard_node K n))) ∙ go (all_below s n) (eqb_tells s n)
     where
-      go : (s < n → n ≤ K.shards → on_shard K.shards s (hashes_below K X n) ≡ first_hashes (X (shard_node K s)))
+      go : (s < n → n ≤ K.shards → on_shard K s (hashes_below K X n) ≡ first_hashes (X (shard_node K s)))
           → (((s == n) ≡ true) × (s ≡ n)) ⊎ (((s == n) ≡ false) × (s ≢ n))
-          → on_shard K.shards s (hashes_below K X n) ++ on_shard K.shards s (first_hashes (X (shard_node K n))) ≡ first_hashes (X (shard_node K s))
+          → on_shard K s (hashes_below K X n) ++ on_shard K s (first_hashes (X (shard_node K n))) ≡ first_hashes (X (shard_node K s))
       go below (inl (b, e)) =
-          subst (λ m. on_shard K.shards m (hashes_below K X n) ++ on_shard K.shards m (first_hashes (X (shard_node K n)))
-          ≡ first_hashes (X (shard_node K m))) (sym e)
-          (ap (λ l. l ++ on_shard K.shards n (first_hashes (X (shard_node K n)))) (none_below n n (omega arith) (omega (arith, low)))
+          subst (λ m. on_shard K m (hashes_below K X n) ++ on_shard K m (first_hashes (X (shard_node K n))) ≡ first_hashes (X (shard_node K m)))
+          (sym e)
+          (ap (λ l. l ++ on_shard K n (first_hashes (X (shard_node K n)))) (none_below n n (omega arith) (omega (arith, low)))
           ∙ all_here K n (first_hashes (X (shard_node K n))) (here n (omega (arith, low))))
       go below (inr (b, other)) =
-          ap (λ l. on_shard K.shards s (hashes_below K X n) ++ l)
+          ap (λ l. on_shard K s (hashes_below K X n) ++ l)
           (none_here K s n (first_hashes (X (shard_node K n))) (λ e. other (sym e)) (here n (omega (arith, low))))
-          ∙ append-nil (on_shard K.shards s (hashes_below K X n)) ∙ below (omega (arith, lt, other)) (omega (arith, low))
+          ∙ append-nil (on_shard K s (hashes_below K X n)) ∙ below (omega (arith, lt, other)) (omega (arith, low))
 
 -- ---- the first record of a journal
 
@@ -217,24 +217,22 @@ module _ (K : Shape) (genesis : Digest) (J : ℕ → List Record) (are : AreLedg
       let e = ends_in (header_of K genesis n) (J n) (are.nodes n (omega (arith, lt))) in
       (e.newer, e.is ∙ ap (λ r. e.newer ++ r ∷ []) (log_first (header_of K genesis n) e.last lt e.first e.after))
 
-  shard_begins : (s : ℕ) → s < K.shards → IsEnd (Genesis (header_of K genesis (shard_node K s)) (on_shard K.shards s m.hashes) ∷ [])
-      (J (shard_node K s))
+  shard_begins : (s : ℕ) → s < K.shards → IsEnd (Genesis (header_of K genesis (shard_node K s)) (on_shard K s m.hashes) ∷ []) (J (shard_node K s))
   shard_begins s lt =
       let e = shard_end s lt in
       let own = shard_first (header_of K genesis (shard_node K s)) e.last (omega arith) e.first e.after in
-      let hs : hashes_in e.last ≡ on_shard K.shards s m.hashes = sym (all_below K J here s K.shards lt (omega arith) ∙ e.hashes) in
+      let hs : hashes_in e.last ≡ on_shard K s m.hashes = sym (all_below K J here s K.shards lt (omega arith) ∙ e.hashes) in
       (e.newer, e.is ∙ ap (λ r. e.newer ++ r ∷ []) (own.0 ∙ ap (λ l. Genesis (header_of K genesis (shard_node K s)) l) hs))
 
   begins : BeginAs K m J
   begins n = elim (cases_lt n (K.coordinators + K.shards)) [
     | inl inside ↦ subst (λ I. IsEnd I (J n)) (sym (first_is K m n inside)) (elim (nat_lt n K.coordinators) as (λ c. nat_lt n K.coordinators ≡ c
-        → IsEnd ((if c then Start (header_of K m.id n) else Genesis (header_of K m.id n) (on_shard K.shards (n - K.coordinators) m.hashes)) ∷ [])
-        (J n)) [
+        → IsEnd ((if c then Start (header_of K m.id n) else Genesis (header_of K m.id n) (on_shard K (n - K.coordinators) m.hashes)) ∷ []) (J n)) [
           | true ↦ λ t. log_begins n (low t)
           | false ↦ λ t.
               let ge : K.coordinators ≤ n = high t in
               let place : shard_node K (n - K.coordinators) ≡ n = omega (arith, ge) in
-              subst (λ k. IsEnd (Genesis (header_of K genesis k) (on_shard K.shards (n - K.coordinators) m.hashes) ∷ []) (J k)) place
+              subst (λ k. IsEnd (Genesis (header_of K genesis k) (on_shard K (n - K.coordinators) m.hashes) ∷ []) (J k)) place
               (shard_begins (n - K.coordinators) (omega (arith, ge, inside)))
         ] refl)
     | inr past ↦ subst (λ I. IsEnd I (J n)) (sym (first_beyond K m n past)) (J n, sym (append-nil (J n)))

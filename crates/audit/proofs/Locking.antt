@@ -74,13 +74,13 @@ module _ (K : Shape) (minting : Minted) (P : Compact → Type 0) (shards : 0 < K
       ≡ count x (all_inputs (won_of K (later ++ first_rows K minting) b)))
       ⊎ (has_finish (journal_at K (record { node = node; what = Finish stamp b ds } ∷ (later ++ first_rows K minting)) x) b
       ≡ has_finish (journal_at K (later ++ first_rows K minting) x) b)
-  finish_exact later kept node stamp b ds next caused x n = elim (at_node node (shard_node K (shard_of K.shards x))) [
+  finish_exact later kept node stamp b ds next caused x n = elim (at_node node (shard_node K (shard_of K x))) [
     | away e ↦ inr (ap (λ J. has_finish J b) (head_away (record { node = node; what = Finish stamp b ds }) (later ++ first_rows K minting)
-        (shard_node K (shard_of K.shards x)) e))
+        (shard_node K (shard_of K x)) e))
     | at e ↦ inl (here e)
   ]
     where
-      here : node ≡ shard_node K (shard_of K.shards x)
+      here : node ≡ shard_node K (shard_of K x)
           → count x (held_inputs (lock_of (journal_at K (later ++ first_rows K minting) x) b))
           ≡ count x (all_inputs (won_of K (later ++ first_rows K minting) b))
       here e =
@@ -100,6 +100,6 @@ module _ (K : Shape) (minting : Minted) (P : Compact → Type 0) (shards : 0 < K
           = ap (λ d. count x (taken_inputs (lock_of (journal_at K (later ++ first_rows K minting) x) b) d)) ds_are
           ∙ taken_is K minting P shards later kept x b locked in
           let none : count x (returned_inputs (lock_of (journal_at K (later ++ first_rows K minting) x) b) ds) ≡ 0
-          = not_both x (lock_of (journal_at K (later ++ first_rows K minting) x) b) ds
-          (one_holder later kept x (shard_node K (shard_of K.shards x)) b) fits (omega arith) in
+          = not_both x (lock_of (journal_at K (later ++ first_rows K minting) x) b) ds (one_holder later kept x (shard_node K (shard_of K x)) b) fits
+          (omega arith) in
           omega (arith, count-held x (lock_of (journal_at K (later ++ first_rows K minting) x) b) ds fits)

@@ -32,7 +32,7 @@ module _ (K : Shape) (m : Minted) where
   geneses_ordered : (s : ℕ) → IsOrdered (geneses K m s ++ starts K m K.coordinators)
   geneses_ordered zero = starts_ordered K.coordinators
   geneses_ordered (suc s) = (
-    geneses_below (shard_node K s) (Genesis (header_of K m.id (shard_node K s)) (on_shard K.shards s m.hashes)) s (omega arith) refl,
+    geneses_below (shard_node K s) (Genesis (header_of K m.id (shard_node K s)) (on_shard K s m.hashes)) s (omega arith) refl,
     geneses_ordered s,
   )
 

@@ -298,7 +298,7 @@ module _ (K : Shape) (past : List Row) (x : Digest) where
   J n = journal n past
 
   abbrev node : ℕ
-  node = shard_node K (shard_of K.shards x)
+  node = shard_node K (shard_of K x)
 
   abbrev holds : Row → Bool
   holds row = holds_back K J row.node row.what x

@@ -249,15 +249,15 @@ next_is (Done stamp b) J x = refl
 pub statuses_next : (K : Shape) (old new : Statuses) (node : ℕ) (r : Record) (past : List Row) → HasStatuses K old past
     → ((y : Digest) → says new y ≡ (if is_here K node y then next_status r (journal node past) y (says old y) else says old y))
     → HasStatuses K new (record { node = node; what = r } ∷ past)
-statuses_next K old new node r past h step x = elim (at_node node (shard_node K (shard_of K.shards x))) [
+statuses_next K old new node r past h step x = elim (at_node node (shard_node K (shard_of K x))) [
   | at e ↦
       let J : List Record = journal_at K past x in
       let here : is_here K node x ≡ true = subst (λ n. (node == n) ≡ true) e (number_self node) in
       let same : journal node past ≡ J = ap (λ n. journal n past) e in
       step x ∙ ap (λ c. if c then next_status r (journal node past) x (says old x) else says old x) here
       ∙ ap (λ I. next_status r I x (says old x)) same ∙ ap (next_status r J x) (h x) ∙ sym (next_is r J x)
-      ∙ sym (ap (λ I. status I x) (head_at (record { node = node; what = r }) past (shard_node K (shard_of K.shards x)) e))
+      ∙ sym (ap (λ I. status I x) (head_at (record { node = node; what = r }) past (shard_node K (shard_of K x)) e))
   | away e ↦
       step x ∙ ap (λ c. if c then next_status r (journal node past) x (says old x) else says old x) e ∙ h x
-      ∙ sym (ap (λ I. status I x) (head_away (record { node = node; what = r }) past (shard_node K (shard_of K.shards x)) e))
+      ∙ sym (ap (λ I. status I x) (head_away (record { node = node; what = r }) past (shard_node K (shard_of K x)) e))
 ]

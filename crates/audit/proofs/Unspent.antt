@@ -237,22 +237,20 @@ module _ (K : Shape) (mint : List Output) (handed : List FullTx) (clean : Clean 
         let locked : has_lock (journal_at K (whole later) x) b ≡ true
         = held_locked (journal_at K (whole later) x) x b
         (let n : 0 < min (count x (held_inputs (lock_of (journal_at K (whole later) x) b))) 1 = (inv.locked x b e).3 in omega arith) in
-        true_false _ (finished_at b ((all_structure K (minted mint) Any shards later kept).lock_prepared (shard_node K (shard_of K.shards x)) b
-        locked) (shard_of K.shards x) (
-          shard_of-lt K.shards x shards,
+        true_false _ (finished_at b ((all_structure K (minted mint) Any shards later kept).lock_prepared (shard_node K (shard_of K x)) b locked)
+        (shard_of K x) (
+          shard_of-lt K x shards,
           not_empty (lock_of (journal_at K (whole later) x) b) _
-              ((all_structure K (minted mint) Any shards later kept).lock_part (shard_of K.shards x) b locked)
-              ((all_more K (minted mint) Any shards later kept (shard_node K (shard_of K.shards x))).lock_some b locked),
+              ((all_structure K (minted mint) Any shards later kept).lock_part (shard_of K x) b locked)
+              ((all_more K (minted mint) Any shards later kept (shard_node K (shard_of K x))).lock_some b locked),
         )) (inv.locked x b e).1
 
     none_coming : (x : Digest) (b : Batch) → 0 < count x (all_outputs (won_of K (whole later) b))
         → has_finish (journal_at K (whole later) x) b ≡ false → ⊥
     none_coming x b n f =
         let prepared = won_prepared (lane_journal K (whole later) b) x b (outcomes_of (lane_journal K (whole later) b) b) n in
-        true_false _ (finished_at b prepared (shard_of K.shards x) (
-          shard_of-lt K.shards x shards,
-          part_of_made K x (txs_of (lane_journal K (whole later) b) b) (outcomes_of (lane_journal K (whole later) b) b) n,
-        )) f
+        true_false _ (finished_at b prepared (shard_of K x)
+        (shard_of-lt K x shards, part_of_made K x (txs_of (lane_journal K (whole later) b) b) (outcomes_of (lane_journal K (whole later) b) b) n)) f
 
     module _ (b : Book) (s : AreSpent mint handed (committed (whole later)) b) (each : EachSpends (committed (whole later))) where
       the_account : Account (whole later) b

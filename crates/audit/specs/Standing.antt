@@ -18,7 +18,7 @@ says s x = said_of (has s.unspent.hashes x) (lookup s.locked.entries x)
 
 -- whether a hash lies on the shard of this node
 abbrev pub is_here : Shape → ℕ → Digest → Bool
-is_here K node x = node == shard_node K (shard_of K.shards x)
+is_here K node x = node == shard_node K (shard_of K x)
 
 -- whether a status is that of a hash that this batch holds
 abbrev pub is_locked_by : Batch → Status → Bool

@@ -19,7 +19,7 @@ waiting_inputs os (a ∷ es) = if waits os a then a.entry.inputs ++ waiting_inpu
 
 -- the journal of the shard on which a hash lies
 abbrev pub shard_journal : Shape → (ℕ → List Record) → Digest → List Record
-shard_journal K J x = J (shard_node K (shard_of K.shards x))
+shard_journal K J x = J (shard_node K (shard_of K x))
 
 -- whether a record of a node is a Lock that holds the hash for a transaction that is not committed
 abbrev pub holds_back : Shape → (ℕ → List Record) → ℕ → Record → Digest → Bool

@@ -49,12 +49,12 @@ pub(crate) fn txs_of<'a>(
 // Whether the entries are the transactions' part at this node, where it is a shard.
 fn is_part_at(shape: &Shape, node: u32, es: &[Answered], txs: &[CompactTx]) -> bool
     ensures { IsTrue result
-        ↔ ((s : ℕ) → node ≡ shard_node shape.now s → entries es.now ≡ part shape.now.shards s 0 txs.now) }
+        ↔ ((s : ℕ) → node ≡ shard_node shape.now s → entries es.now ≡ part shape.now s 0 txs.now) }
 {
     if node < shape.coordinators() {
         return true;
     }
-    is_part_from(shape.shards(), node - shape.coordinators(), 0, txs, es)
+    is_part_from(shape, node - shape.coordinators(), 0, txs, es)
 }
 
 // Whether a Lock is caused.

@@ -134,7 +134,7 @@ fn add_due(
 {
     'hashes: for at in 0..xs.len() {
         let x = &xs[at];
-        let node = shape.coordinators() + shard_of(x, shape.shards());
+        let node = shape.coordinators() + shard_of(x, shape);
         if known
             .found(journals, node, RecordKind::Finish as u64, batch)
             .is_none()

@@ -25,7 +25,7 @@ pub(crate) struct Statuses {
 pub(crate) fn is_here(shape: &Shape, node: u32, x: &Hash) -> bool
     ensures { result ≡ is_here shape.now node x.now }
 {
-    let shard = shard_of(x, shape.shards());
+    let shard = shard_of(x, shape);
     u64::from(node) == u64::from(shape.coordinators()) + u64::from(shard)
 }
 

@@ -45,7 +45,7 @@ IsCaused K journals node (Prepare stamp b txs) = IsStamped stamp (journals node)
 IsCaused K journals node (Lock stamp b es) =
     let cause = record_of prepare_kind (journals (home_of K b.lane)) b in
     (is_some cause ≡ true)
-    × ((s : ℕ) → node ≡ shard_node K s → entries es ≡ part K.shards s 0 (txs_in cause))
+    × ((s : ℕ) → node ≡ shard_node K s → entries es ≡ part K s 0 (txs_in cause))
     × IsStamped stamp (journals node) (stamp_in cause)
 IsCaused K journals node (Commit stamp b os) =
     AllHave K journals lock_kind b

@@ -29,7 +29,7 @@ answered_with (e ∷ es) (r ∷ rs) = record { entry = e; reply = r } ∷ answer
 
 -- the outcomes of a batch by these replies: of each transaction Held, or the least shard that refuses
 abbrev pub decided : Shape → List Compact → List ShardReplies → List Outcome
-decided K txs replies = outcomes (λ s. answered_with (part K.shards s 0 txs) (replies_in (replies_at replies s))) K.shards 0 txs
+decided K txs replies = outcomes (λ s. answered_with (part K s 0 txs) (replies_in (replies_at replies s))) K.shards 0 txs
 
 -- the greatest stamp of the replies
 abbrev pub reply_cause : Shape → List ShardReplies → ℕ

@@ -30,7 +30,7 @@ IsShard K node = (K.coordinators ≤ node) × (node < K.coordinators + K.shards)
 
 -- the hashes lie on the shard of this node
 abbrev pub AreHere : Shape → ℕ → List Digest → Type 0
-AreHere K node xs = All (λ x. shard_node K (shard_of K.shards x) ≡ node) xs
+AreHere K node xs = All (λ x. shard_node K (shard_of K x) ≡ node) xs
 
 -- a list of 1 to as many items as a batch may have
 abbrev pub HasSize : {X : Type 0} → Shape → List X → Type 0

@@ -32,7 +32,7 @@ starts K m (suc n) = record { node = n; what = Start (header_of K m.id n) } ∷ 
 abbrev pub geneses : Shape → Minted → ℕ → List Row
 geneses K m zero = []
 geneses K m (suc s) =
-    record { node = shard_node K s; what = Genesis (header_of K m.id (shard_node K s)) (on_shard K.shards s m.hashes) } ∷ geneses K m s
+    record { node = shard_node K s; what = Genesis (header_of K m.id (shard_node K s)) (on_shard K s m.hashes) } ∷ geneses K m s
 
 -- all first rows of a ledger: a Start at each coordinator, a Genesis at each shard
 abbrev pub first_rows : Shape → Minted → List Row

@@ -1,6 +1,6 @@
 -- What lanes add to the journals that they see, and kept journals as one fact for each record.
 use Rattle.std.specs.Prelude.{◌≡◌, ◌⊎◌, ℕ, Bool, true, false, ◌&&◌, not, List, ◌∷◌, ◌++◌, All, Contains}
-use Rattle.cbdc_model.specs.Records.{Shape, Compact, Record, journal, is_in_lane, Genesis, Start, Prepare, Carry, CarryStart}
+use Rattle.cbdc_model.specs.Records.{Shape, Compact, Record, journal, tells_lane, Genesis, Start, Prepare, Carry, CarryStart}
 use Rattle.cbdc_model.specs.After.{After}
 use Rattle.cbdc_model.specs.Causes.{IsCaused}
 use Rattle.cbdc_model.specs.History.{Minted, header_of, first_rows, TxsPass}
@@ -27,13 +27,13 @@ Holds pieces other = Unit {0}
 
 -- whether a record of another lane may have come between: never where the ports are alone
 abbrev pub may_come : Bool → ℕ → Record → Bool
-may_come alone lane r = not alone && not (is_in_lane lane r)
+may_come alone lane r = not alone && not (tells_lane lane r)
 
 -- journals I have grown to J, by records of other lanes and by records of this lane that are caused by what it saw
 pub record Made (K : Shape) (pieces : List (List Compact)) (alone : Bool) (lane : ℕ) (I J : ℕ → List Record) : Type 0 where
   pub grows : (n : ℕ) → IsEnd (I n) (J n)
   pub each : (n : ℕ) (newer rest : List Record) (r : Record) → J n ≡ newer ++ r ∷ rest → IsEnd (I n) rest
-      → (may_come alone lane r ≡ true) ⊎ ((is_in_lane lane r ≡ true) × Seen K J n rest r × Holds pieces r)
+      → (may_come alone lane r ≡ true) ⊎ ((tells_lane lane r ≡ true) × Seen K J n rest r × Holds pieces r)
 
 -- a node's journal of first records
 abbrev pub first_of : Shape → Minted → ℕ → List Record
@@ -57,13 +57,13 @@ NextFrom K m E X = (n : ℕ) (newer rest : List Record) (r : Record) → X n ≡
 -- each new record is a lane's
 abbrev pub AllInLanes : (ℕ → List Record) → (ℕ → List Record) → Type 0
 AllInLanes E X = (n : ℕ) (newer rest : List Record) (r : Record) → X n ≡ newer ++ r ∷ rest → IsEnd (E n) rest
-    → (lane : ℕ) × (is_in_lane lane r ≡ true)
+    → (lane : ℕ) × (tells_lane lane r ≡ true)
 
 -- what a lane had seen at its end are beginnings of the final journals, behind which nothing of the lane came
 pub record Left (lane : ℕ) (J X : ℕ → List Record) : Type 0 where
   pub more : ℕ → List Record
   pub is : (n : ℕ) → X n ≡ more n ++ J n
-  pub others : (n : ℕ) (newer rest : List Record) (r : Record) → more n ≡ newer ++ r ∷ rest → is_in_lane lane r ≡ false
+  pub others : (n : ℕ) (newer rest : List Record) (r : Record) → more n ≡ newer ++ r ∷ rest → tells_lane lane r ≡ false
 
 -- a wave from journals E to journals X: what each lane made, as it saw it, and what each node says of itself; lanes in turn and
 -- lanes as threads both give it

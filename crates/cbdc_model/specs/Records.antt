@@ -147,7 +147,7 @@ is_of b (Carry stamp header source hs numbers) = false
 is_of b (CarryStart stamp header source numbers) = false
 is_of b (Seal stamp to shards) = false
 
--- whether a record says what the lane's last batch is: a record of a batch of the lane, and a first record that has the lane's number
+-- whether a record is of a batch of this lane
 abbrev pub is_in_lane : ℕ → Record → Bool
 is_in_lane lane (Genesis header hashes) = false
 is_in_lane lane (Lock stamp c es) = c.lane == lane
@@ -159,9 +159,15 @@ is_in_lane lane (Commit stamp c os) = c.lane == lane
 is_in_lane lane (Discard stamp c) = c.lane == lane
 is_in_lane lane (Done stamp c) = c.lane == lane
 is_in_lane lane (Upgrade stamp batch) = false
-is_in_lane lane (Carry stamp header source hs numbers) = nat_lt lane (length numbers)
-is_in_lane lane (CarryStart stamp header source numbers) = lane / header.shape.lanes == header.node
+is_in_lane lane (Carry stamp header source hs numbers) = false
+is_in_lane lane (CarryStart stamp header source numbers) = false
 is_in_lane lane (Seal stamp to shards) = false
+
+-- whether a record tells what the lane's last batch is: one of the lane, and a first record that has the lane's number
+abbrev pub tells_lane : ℕ → Record → Bool
+tells_lane lane (Carry stamp header source hs numbers) = nat_lt lane (length numbers)
+tells_lane lane (CarryStart stamp header source numbers) = lane / header.shape.lanes == header.node
+tells_lane lane other = is_in_lane lane other
 
 -- the newest record of a kind of a batch
 abbrev pub record_of : ℕ → List Record → Batch → Option Record

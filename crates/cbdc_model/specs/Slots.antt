@@ -1,6 +1,6 @@
 -- A lane's slot at a node: the number and the kind of its last record there, by looking back.
 use Rattle.std.specs.Prelude.{ℕ, ◌/◌, ◌%◌, ◌==◌, nat_lt, List, [], ◌∷◌, length, if◌then◌else◌, find, slice_index_or}
-use Rattle.cbdc_model.specs.Records.{is_in_lane, stamp_in, Record, Genesis, Lock, Finish, Forget, Start, Prepare, Commit, Discard, Done, Upgrade}
+use Rattle.cbdc_model.specs.Records.{tells_lane, stamp_in, Record, Genesis, Lock, Finish, Forget, Start, Prepare, Commit, Discard, Done, Upgrade}
 use Rattle.cbdc_model.specs.Records.{Carry, CarryStart, Seal}
 
 -- what the last record of a lane was: Idle after none, a first record, a Forget or a Done
@@ -43,4 +43,4 @@ slot (Seal stamp to shards ∷ past) lane = slot past lane
 
 -- the stamp of the lane's last record, 0 where there is none
 abbrev pub slot_stamp : List Record → ℕ → ℕ
-slot_stamp past lane = stamp_in (find (λ r. is_in_lane lane r) past)
+slot_stamp past lane = stamp_in (find (λ r. tells_lane lane r) past)

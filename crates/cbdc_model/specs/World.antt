@@ -48,7 +48,7 @@ abbrev pub first_record : Shape → Minted → ℕ → Record
 first_record K m n =
     if nat_lt n K.coordinators
     then Start (header_of K m.id n)
-    else Genesis (header_of K m.id n) (on_shard K.shards (n - K.coordinators) m.hashes)
+    else Genesis (header_of K m.id n) (on_shard K (n - K.coordinators) m.hashes)
 
 -- a node as the ledger begins: up, with its first record and nothing in flight
 abbrev pub first_node : Shape → Minted → ℕ → Node
@@ -90,7 +90,7 @@ IsConcerned K J node b = (s : ℕ) × (node ≡ shard_node K s) × Concerned K (
 abbrev pub CauseStands : Shape → (ℕ → List Record) → ℕ → ShardCall → Type 0
 CauseStands K J node (Lock_call c) =
     (txs : List Compact) × (record_of prepare_kind (J (home_of K c.batch.lane)) c.batch ≡ Some (Prepare c.cause c.batch txs))
-    × ((s : ℕ) → node ≡ shard_node K s → c.part ≡ part K.shards s 0 txs)
+    × ((s : ℕ) → node ≡ shard_node K s → c.part ≡ part K s 0 txs)
 CauseStands K J node (Finish_call c) =
     (os : List Outcome) × (record_of commit_kind (J (home_of K c.batch.lane)) c.batch ≡ Some (Commit c.cause c.batch os))
     × (c.decisions ≡ decisions os (entries (lock_of (J node) c.batch)))
@@ -200,8 +200,8 @@ pub record IsAlike (K : Shape) (J : ℕ → List Record) (b : Batch) : Type 0 wh
   pub one_finish : (s : ℕ) → Concerned K (prepared_txs K J b) s → count_of finish_kind (J (shard_node K s)) b ≡ 1
   pub same_decisions : (s : ℕ) → Concerned K (prepared_txs K J b) s
       → decisions_in (record_of finish_kind (J (shard_node K s)) b)
-      ≡ decisions (outcomes_of (J (home_of K b.lane)) b) (part K.shards s 0 (prepared_txs K J b))
-  pub no_other : (s kind : ℕ) → s < K.shards → is_no_part (part K.shards s 0 (prepared_txs K J b)) ≡ true
+      ≡ decisions (outcomes_of (J (home_of K b.lane)) b) (part K s 0 (prepared_txs K J b))
+  pub no_other : (s kind : ℕ) → s < K.shards → is_no_part (part K s 0 (prepared_txs K J b)) ≡ true
       → (kind ≡ lock_kind) ⊎ (kind ≡ finish_kind) ⊎ (kind ≡ forget_kind) → count_of kind (J (shard_node K s)) b ≡ 0
 
 -- every batch with a Prepare is finished alike on all its shards
@@ -210,7 +210,7 @@ Alike K J = (b : Batch) → is_some (record_of prepare_kind (J (home_of K b.lane
 
 -- the hash is Unspent at its shard
 abbrev pub IsUnspent : Shape → (ℕ → List Record) → Digest → Type 0
-IsUnspent K J x = status (J (shard_node K (shard_of K.shards x))) x ≡ Unspent
+IsUnspent K J x = status (J (shard_node K (shard_of K x))) x ≡ Unspent
 
 -- the journals with one node's replaced
 abbrev pub replaced : (ℕ → List Record) → ℕ → List Record → ℕ → List Record

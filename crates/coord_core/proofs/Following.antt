@@ -24,13 +24,13 @@ follows_admitted c J (Prepare stamp b txs) stands next =
 follows_admitted c J (Commit stamp b os) stands next =
     let s : slot J b.lane ≡ record { number = b.number; phase = InPrepare } = sym (stands.slots b.lane next.0.0) ∙ next.1 in
     let batch : open_batch J b.lane ≡ b = ap (λ x. record { lane = b.lane; number = x.number }) s in
-    let masks : (coord_lane c b.lane).masks ≡ masks_of c.header.shape.shards (txs_of J (open_batch J b.lane)) =
+    let masks : (coord_lane c b.lane).masks ≡ masks_of c.header.shape (txs_of J (open_batch J b.lane)) =
     stands.masks b.lane next.0.0 (ap (λ x. x.phase) s) in (
       omega (arith, stands.last, next.0.1),
       sym next.0.0,
       ap (λ x. x.phase) s,
       ap (λ x. x.number) s,
-      sym next.2 ∙ ap length masks ∙ length-map (txs_of J (open_batch J b.lane)) (λ t. mask_of c.header.shape.shards t)
+      sym next.2 ∙ ap length masks ∙ length-map (txs_of J (open_batch J b.lane)) (λ t. mask_of c.header.shape t)
           ∙ ap (λ x. length (txs_of J x)) batch,
     )
 follows_admitted c J (Discard stamp b) stands next =
@@ -62,10 +62,10 @@ admitted_follows c J (Commit stamp b os) whole stands begun grammar follows =
     let own = sym follows.1 in
     let s : (coord_lane c b.lane).slot ≡ slot J b.lane = stands.slots b.lane own in
     let batch : open_batch J b.lane ≡ b = ap (λ x. record { lane = b.lane; number = x }) follows.3 in
-    let masks : (coord_lane c b.lane).masks ≡ masks_of c.header.shape.shards (txs_of J (open_batch J b.lane)) = stands.masks b.lane own follows.2 in (
+    let masks : (coord_lane c b.lane).masks ≡ masks_of c.header.shape (txs_of J (open_batch J b.lane)) = stands.masks b.lane own follows.2 in (
       (own, (omega (arith, stands.last, follows.0)), grammar.0.1),
       s ∙ slot_is (slot J b.lane) b.number InPrepare (sym follows.3) follows.2,
-      ap length masks ∙ length-map (txs_of J (open_batch J b.lane)) (λ t. mask_of c.header.shape.shards t) ∙ ap (λ x. length (txs_of J x)) batch
+      ap length masks ∙ length-map (txs_of J (open_batch J b.lane)) (λ t. mask_of c.header.shape t) ∙ ap (λ x. length (txs_of J x)) batch
           ∙ sym follows.4,
     )
 admitted_follows c J (Discard stamp b) whole stands begun grammar follows =

@@ -27,13 +27,13 @@ follows_next c J (Prepare stamp b txs) stands next =
 follows_next c J (Commit stamp b os) stands next =
     let s : slot J b.lane ≡ record { number = b.number; phase = InPrepare } = sym (stands.slots b.lane next.0.0) ∙ next.1 in
     let batch : open_batch J b.lane ≡ b = ap (λ x. record { lane = b.lane; number = x.number }) s in
-    let masks : (coord_lane c b.lane).masks ≡ masks_of c.header.shape.shards (txs_of J (open_batch J b.lane)) =
+    let masks : (coord_lane c b.lane).masks ≡ masks_of c.header.shape (txs_of J (open_batch J b.lane)) =
     stands.masks b.lane next.0.0 (ap (λ x. x.phase) s) in (
       omega (arith, stands.last, next.0.1),
       sym next.0.0,
       ap (λ x. x.phase) s,
       ap (λ x. x.number) s,
-      sym next.2 ∙ ap length masks ∙ length-map (txs_of J (open_batch J b.lane)) (λ t. mask_of c.header.shape.shards t)
+      sym next.2 ∙ ap length masks ∙ length-map (txs_of J (open_batch J b.lane)) (λ t. mask_of c.header.shape t)
           ∙ ap (λ x. length (txs_of J x)) batch,
     )
 follows_next c J (Discard stamp b) stands next =

@@ -38,7 +38,7 @@ own_room c J lane whole stands j own =
     let s : (coord_lane c lane).slot ≡ slot J lane = stands.slots lane own in
     let b : Batch = record { lane = lane; number = (slot J lane).number } in
     let masks : (slot J lane).phase ≡ InPrepare → length (txs_of J b) ≡ length (coord_lane c lane).masks =
-    λ e. sym (ap length (stands.masks lane own e) ∙ length-map (txs_of J b) (λ t. mask_of c.header.shape.shards t)) in
+    λ e. sym (ap length (stands.masks lane own e) ∙ length-map (txs_of J b) (λ t. mask_of c.header.shape t)) in
     coord_room (slot J lane).phase (length (lock_of J b)) (length (txs_of J b)) (length (coord_lane c lane).masks)
     (coord_phase c.header lane (slot J lane) (slot_facts c.header J lane whole.node j)) masks
     ∙ ap (λ x. room_in x.phase 0 (length (coord_lane c lane).masks)) (sym s)

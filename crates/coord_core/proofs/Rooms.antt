@@ -60,8 +60,8 @@ turn_rooms c d stamp lane s whole is other rooms =
 pub taken_rooms : (c d : CoordOf) (r : Record) → IsCoordWhole c → CoordAdmits c r → CoordTakes c d r → AllRoomed c → AllRoomed d
 taken_rooms c d (Prepare stamp b txs) whole next takes rooms =
     let n : CoordLaneOf = record (coord_lane c b.lane)
-    { slot = record { number = b.number; phase = InPrepare }; masks = masks_of c.header.shape.shards txs } in
-    let masks : length (masks_of c.header.shape.shards txs) ≡ length txs = length-map txs (λ t. mask_of c.header.shape.shards t) in
+    { slot = record { number = b.number; phase = InPrepare }; masks = masks_of c.header.shape txs } in
+    let masks : length (masks_of c.header.shape txs) ≡ length txs = length-map txs (λ t. mask_of c.header.shape t) in
     let roomed : AllRoomed (with_prepared c stamp b txs) =
     room_set c b.lane n (place_in c b.lane whole) (λ e. omega (arith, masks, next.1)) (all_others c b.lane rooms) in
     let P : CoordOf → Type 0 = λ x. AllRoomed x in subst P (sym takes) roomed

@@ -20,7 +20,7 @@ stands_same c d past same stands = record {
   last = same.last ∙ stands.last;
   slots = λ lane own. same.slots lane ∙ stands.slots lane (owned lane own);
   masks = λ lane own phase. same.masks lane ∙ stands.masks lane (owned lane own) phase
-      ∙ ap (λ h. masks_of h.shape.shards (txs_of past (open_batch past lane))) (sym same.header);
+      ∙ ap (λ h. masks_of h.shape (txs_of past (open_batch past lane))) (sym same.header);
 }
   where
     owned : (lane : ℕ) → IsOwnLane d.header lane → IsOwnLane c.header lane

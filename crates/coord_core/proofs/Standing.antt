@@ -82,7 +82,7 @@ masks_kept : (c d : CoordOf) (past : List Record) (r : Record) (stamp lane : ℕ
     → d ≡ record (with_lane c lane l) { last = stamp } → CoordStands c past → IsOwnLane c.header lane
     → Sets past r lane l.slot → ((b : Batch) → txs_of (r ∷ past) b ≡ txs_of past b) → (l.slot.phase ≡ InPrepare → ⊥)
     → (q : ℕ) → IsOwnLane d.header q → (slot (r ∷ past) q).phase ≡ InPrepare
-    → (coord_lane d q).masks ≡ masks_of d.header.shape.shards (txs_of (r ∷ past) (open_batch (r ∷ past) q))
+    → (coord_lane d q).masks ≡ masks_of d.header.shape (txs_of (r ∷ past) (open_batch (r ∷ past) q))
 masks_kept c d past r stamp lane l is stands own sets same never q own' phase =
     rw is (go (eqb_tells q lane))
   where
@@ -90,13 +90,13 @@ masks_kept c d past r stamp lane l is stands own sets same never q own' phase =
     own'' = let P : CoordOf → Type 0 = λ x. IsOwnLane x.header q in subst P is own'
 
     go : ((eqb q lane ≡ true) × (q ≡ lane)) ⊎ ((eqb q lane ≡ false) × (q ≢ lane))
-        → (coord_lane (with_lane c lane l) q).masks ≡ masks_of c.header.shape.shards (txs_of (r ∷ past) (open_batch (r ∷ past) q))
+        → (coord_lane (with_lane c lane l) q).masks ≡ masks_of c.header.shape (txs_of (r ∷ past) (open_batch (r ∷ past) q))
     go (inl (t, e)) = absurd (never (sym (ap (λ x. x.phase) sets.own) ∙ ap (λ x. (slot (r ∷ past) x).phase) (sym e) ∙ phase))
     go (inr (f, ne)) =
         ap (λ x. x.masks) (lane_kept c lane q l own own'' ne)
         ∙ stands.masks q own'' (ap (λ x. x.phase) (sym (sets.other q ne)) ∙ phase)
-        ∙ ap (λ x. masks_of c.header.shape.shards (txs_of past (record { lane = q; number = x.number }))) (sym (sets.other q ne))
-        ∙ ap (masks_of c.header.shape.shards) (sym (same (open_batch (r ∷ past) q)))
+        ∙ ap (λ x. masks_of c.header.shape (txs_of past (record { lane = q; number = x.number }))) (sym (sets.other q ne))
+        ∙ ap (masks_of c.header.shape) (sym (same (open_batch (r ∷ past) q)))
 
 same_self : (b : Batch) → same_batch b b ≡ true
 same_self b = rw (eqb-self b.lane) (eqb-self b.number)
@@ -104,7 +104,7 @@ same_self b = rw (eqb-self b.lane) (eqb-self b.number)
 prepare_masks : (c d : CoordOf) (past : List Record) (stamp : ℕ) (b : Batch) (txs : List Compact)
     → d ≡ with_prepared c stamp b txs → CoordStands c past → IsOwnLane c.header b.lane → b.lane % c.header.shape.lanes < length c.lanes
     → (q : ℕ) → IsOwnLane d.header q → (slot (Prepare stamp b txs ∷ past) q).phase ≡ InPrepare
-    → (coord_lane d q).masks ≡ masks_of d.header.shape.shards (txs_of (Prepare stamp b txs ∷ past) (open_batch (Prepare stamp b txs ∷ past) q))
+    → (coord_lane d q).masks ≡ masks_of d.header.shape (txs_of (Prepare stamp b txs ∷ past) (open_batch (Prepare stamp b txs ∷ past) q))
 prepare_masks c d past stamp b txs is stands own lt q own' phase =
     rw is (go (eqb_tells q b.lane))
   where
@@ -115,23 +115,23 @@ prepare_masks c d past stamp b txs is stands own lt q own' phase =
     sets = sets_prepare past stamp b txs
 
     l : CoordLaneOf
-    l = record (coord_lane c b.lane) { slot = record { number = b.number; phase = InPrepare }; masks = masks_of c.header.shape.shards txs }
+    l = record (coord_lane c b.lane) { slot = record { number = b.number; phase = InPrepare }; masks = masks_of c.header.shape txs }
 
     here : txs_of (Prepare stamp b txs ∷ past) (open_batch (Prepare stamp b txs ∷ past) b.lane) ≡ txs
     here = rw (eqb-self b.lane) (rw (eqb-self b.number) refl)
 
     go : ((eqb q b.lane ≡ true) × (q ≡ b.lane)) ⊎ ((eqb q b.lane ≡ false) × (q ≢ b.lane))
         → (coord_lane (with_prepared c stamp b txs) q).masks
-        ≡ masks_of c.header.shape.shards (txs_of (Prepare stamp b txs ∷ past) (open_batch (Prepare stamp b txs ∷ past) q))
+        ≡ masks_of c.header.shape (txs_of (Prepare stamp b txs ∷ past) (open_batch (Prepare stamp b txs ∷ past) q))
     go (inl (t, e)) =
         let P : ℕ → Type 0 = λ x. (coord_lane (with_prepared c stamp b txs) x).masks
-        ≡ masks_of c.header.shape.shards (txs_of (Prepare stamp b txs ∷ past) (open_batch (Prepare stamp b txs ∷ past) x)) in
-        subst P (sym e) (ap (λ x. x.masks) (lane_set c b.lane l lt) ∙ ap (masks_of c.header.shape.shards) (sym here))
+        ≡ masks_of c.header.shape (txs_of (Prepare stamp b txs ∷ past) (open_batch (Prepare stamp b txs ∷ past) x)) in
+        subst P (sym e) (ap (λ x. x.masks) (lane_set c b.lane l lt) ∙ ap (masks_of c.header.shape) (sym here))
     go (inr (f, ne)) =
         ap (λ x. x.masks) (lane_kept c b.lane q l own own'' ne)
         ∙ stands.masks q own'' (ap (λ x. x.phase) (sym (sets.other q ne)) ∙ phase)
-        ∙ ap (λ x. masks_of c.header.shape.shards (txs_of past (record { lane = q; number = x.number }))) (sym (sets.other q ne))
-        ∙ ap (masks_of c.header.shape.shards) (sym (passes (slot (Prepare stamp b txs ∷ past) q).number))
+        ∙ ap (λ x. masks_of c.header.shape (txs_of past (record { lane = q; number = x.number }))) (sym (sets.other q ne))
+        ∙ ap (masks_of c.header.shape) (sym (passes (slot (Prepare stamp b txs ∷ past) q).number))
       where
         passes : (n : ℕ) → txs_of (Prepare stamp b txs ∷ past) (record { lane = q; number = n }) ≡ txs_of past (record { lane = q; number = n })
         passes n = let e : eqb b.lane q ≡ false = ne_eqb b.lane q (λ h. ne (sym h)) in rw e refl
@@ -149,7 +149,7 @@ stands_next c d past (Prepare stamp b txs) whole stands next takes = record {
     lt = rw whole.lanes (mod-lt b.lane whole.limits.some_lane)
 
     l : CoordLaneOf
-    l = record (coord_lane c b.lane) { slot = record { number = b.number; phase = InPrepare }; masks = masks_of c.header.shape.shards txs }
+    l = record (coord_lane c b.lane) { slot = record { number = b.number; phase = InPrepare }; masks = masks_of c.header.shape txs }
 stands_next c d past (Commit stamp b os) whole stands next takes = record {
   last = ap (λ x. x.last) takes;
   slots = slots_set c d past (Commit stamp b os) stamp b.lane l takes stands next.0.0 lt (sets_commit past stamp b os);

@@ -6,7 +6,7 @@ use Rattle.std.proofs.lemmas.Bool.{ne_eqb}
 use Rattle.std.specs.Int.{bit_at}
 use Rattle.std.proofs.lemmas.List.{take_more, take_more_set, take-append-drop, drop-set-lt, drop_all}
 use Rattle.cbdc_types.specs.declared.batch.ShardReplies.{ShardReplies}
-use Rattle.cbdc_model.specs.Records.{Digest, Reply, Outcome}
+use Rattle.cbdc_model.specs.Records.{Digest, Shape, Reply, Outcome}
 use Rattle.cbdc_model.specs.Slots.{Slot, Phase}
 use Rattle.cbdc_model.specs.Ranges.{shard_of}
 use Rattle.cbdc_model.specs.Outcomes.{outcome_by}
@@ -23,9 +23,9 @@ rest_at xs i d lt = rw add-one (drop-cons xs i d lt)
 pub rest_is : {A : Type 0} (xs : List A) (i : ℕ) (x : A) → i < length xs → x ≡ get_or xs i x → drop i xs ≡ x ∷ drop (i + 1) xs
 rest_is xs i x lt is = rest_at xs i x lt ∙ ap (λ y. y ∷ drop (i + 1) xs) (sym is)
 
-pub marked_step : (shards m : ℕ) (xs : List Digest) (i : ℕ) (x : Digest) → i < length xs → x ≡ get_or xs i x
-    → marked shards (bit_or m (2 ^ shard_of shards x)) (drop (i + 1) xs) ≡ marked shards m (drop i xs)
-marked_step shards m xs i x lt is = rw (rest_is xs i x lt is) refl
+pub marked_step : (K : Shape) (m : ℕ) (xs : List Digest) (i : ℕ) (x : Digest) → i < length xs → x ≡ get_or xs i x
+    → marked K (bit_or m (2 ^ shard_of K x)) (drop (i + 1) xs) ≡ marked K m (drop i xs)
+marked_step K m xs i x lt is = rw (rest_is xs i x lt is) refl
 
 pub latest_step : (n : ℕ) (rs : List ShardReplies) (i : ℕ) (r : ShardReplies) → i < length rs → r ≡ get_or rs i r
     → latest_reply (max n r.stamp) (drop (i + 1) rs) ≡ latest_reply n (drop i rs)
@@ -102,16 +102,16 @@ held_step ms i os os' lt held more = more ∙ ap (λ x. x ++ Won ∷ []) held �
     grow (m ∷ ms) zero lt = refl
     grow (m ∷ ms) (suc i) lt = let e : suc i + 1 ≡ suc (i + 1) = omega arith in rw e (ap (λ x. Won ∷ x) (grow ms i (omega arith)))
 
-pub masks_step : (shards : ℕ) (txs : List Compact) (i : ℕ) (t : Compact) (ms ms' : List ℕ) → i < length txs → t ≡ get_or txs i t
-    → ms ≡ masks_of shards (take i txs) → ms' ≡ ms ++ mask_of shards t ∷ [] → ms' ≡ masks_of shards (take (i + 1) txs)
-masks_step shards txs i t ms ms' lt is old more = more ∙ ap (λ x. x ++ mask_of shards t ∷ []) old ∙ grow txs i t lt is
+pub masks_step : (K : Shape) (txs : List Compact) (i : ℕ) (t : Compact) (ms ms' : List ℕ) → i < length txs → t ≡ get_or txs i t
+    → ms ≡ masks_of K (take i txs) → ms' ≡ ms ++ mask_of K t ∷ [] → ms' ≡ masks_of K (take (i + 1) txs)
+masks_step K txs i t ms ms' lt is old more = more ∙ ap (λ x. x ++ mask_of K t ∷ []) old ∙ grow txs i t lt is
   where
     grow : (txs : List Compact) (i : ℕ) (t : Compact) → i < length txs → t ≡ get_or txs i t
-        → masks_of shards (take i txs) ++ mask_of shards t ∷ [] ≡ masks_of shards (take (i + 1) txs)
+        → masks_of K (take i txs) ++ mask_of K t ∷ [] ≡ masks_of K (take (i + 1) txs)
     grow [] i t lt is = absurd (omega arith)
-    grow (u ∷ us) zero t lt is = ap (λ x. mask_of shards x ∷ []) is
+    grow (u ∷ us) zero t lt is = ap (λ x. mask_of K x ∷ []) is
     grow (u ∷ us) (suc i) t lt is = let e : suc i + 1 ≡ suc (i + 1) = omega arith in
-        rw e (ap (λ x. mask_of shards u ∷ x) (grow us i t (omega arith) is))
+        rw e (ap (λ x. mask_of K u ∷ x) (grow us i t (omega arith) is))
 
 pub took_one : {A : Type 0} (xs : List A) (i : ℕ) (x : A) (ys zs : List A) → i < length xs → x ≡ get_or xs i x → ys ≡ take i xs → zs ≡ ys ++ x ∷ []
     → zs ≡ take (i + 1) xs

@@ -38,4 +38,4 @@ StampsBelow limit (r ∷ rs) = (r.stamp < limit) × StampsBelow limit rs
 -- the shards rise, and each has replied to each entry of its part
 pub record AreRepliesTo (K : Shape) (txs : List Compact) (replies : List ShardReplies) : Type 0 where
   pub rising : ShardsRise 0 K.shards replies
-  pub each : (s : ℕ) → s < K.shards → length (replies_in (replies_at replies s)) ≡ length (part K.shards s 0 txs)
+  pub each : (s : ℕ) → s < K.shards → length (replies_in (replies_at replies s)) ≡ length (part K s 0 txs)

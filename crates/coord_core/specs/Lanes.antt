@@ -68,7 +68,7 @@ with_slot c stamp lane s = record (with_lane c lane (record (coord_lane c lane) 
 abbrev pub with_prepared : CoordOf → ℕ → Batch → List Compact → CoordOf
 with_prepared c stamp b txs =
     record (with_lane c b.lane (record (coord_lane c b.lane)
-    { slot = record { number = b.number; phase = InPrepare }; masks = masks_of c.header.shape.shards txs })) { last = stamp }
+    { slot = record { number = b.number; phase = InPrepare }; masks = masks_of c.header.shape txs })) { last = stamp }
 
 -- the coordinator has taken the record in
 abbrev pub CoordTakes : CoordOf → CoordOf → Record → Type 0

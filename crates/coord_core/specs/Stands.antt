@@ -11,7 +11,7 @@ pub record CoordStands (c : CoordOf) (J : List Record) : Type 0 where
   pub last : c.last ≡ last_stamp J
   pub slots : (lane : ℕ) → IsOwnLane c.header lane → (coord_lane c lane).slot ≡ slot J lane
   pub masks : (lane : ℕ) → IsOwnLane c.header lane → (slot J lane).phase ≡ InPrepare
-      → (coord_lane c lane).masks ≡ masks_of c.header.shape.shards (txs_of J (open_batch J lane))
+      → (coord_lane c lane).masks ≡ masks_of c.header.shape (txs_of J (open_batch J lane))
 
 -- the coordinator is as this journal leaves it, and its prepared batches have room for their outcomes
 pub record IsRoomyFor (c : CoordOf) (J : List Record) : Type 0 where

@@ -172,7 +172,7 @@ impl CoordCore {
 
         // It is what becomes of these transactions, if the replies are to their parts.
         ensures decided { (txs : List Compact) → (coord_lane self.old lane).masks
-            ≡ masks_of self.old.header.shape.shards txs → AreRepliesTo self.old.header.shape txs replies.now
+            ≡ masks_of self.old.header.shape txs → AreRepliesTo self.old.header.shape txs replies.now
             → result ≡ Commit (suc (max self.old.last (reply_cause self.old.header.shape replies.now)))
             (core_batch self.old lane) (decided self.old.header.shape txs replies.now) }
 
@@ -488,9 +488,9 @@ impl CoordCore {
         ensures { self.new ≡ with_prepared self.old stamp batch.now txs.now }
     {
         let place = self.place(batch.lane);
-        let shards = self.header.shape.shards();
+        let shape = self.header.shape;
         let lane = &mut self.lanes[place];
-        lane.begin(batch.number, shards, txs);
+        lane.begin(batch.number, &shape, txs);
         self.last = stamp.0;
     }
 }

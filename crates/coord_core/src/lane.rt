@@ -12,7 +12,7 @@ ghost use Rattle.coord_core.specs.Lanes.{lane_kept, ahead_in};
 use crate::combine::combine;
 use crate::mask::mask;
 use crate::phase::LanePhase;
-use cbdc_types::{CompactTx, Outcome, ShardReplies};
+use cbdc_types::{CompactTx, Outcome, Shape, ShardReplies};
 use std::alloc::{AllocError, Global};
 use std::marker::Model;
 use std::mem;
@@ -88,17 +88,15 @@ impl Lane {
     }
 
     /// Begins a batch: its masks, and Prepared with its number.
-    pub(crate) fn begin(&mut self, number: u64, shards: u32, txs: &[CompactTx])
-        requires some { 1 ≤ shards }
-        requires limit { shards ≤ 64 }
+    pub(crate) fn begin(&mut self, number: u64, shape: &Shape, txs: &[CompactTx])
         requires room { length txs.now ≤ self.old.room }
         ensures slot { self.new.slot ≡ slot_of (LanePhase.Prepared number) }
-        ensures masks { self.new.masks ≡ masks_of shards txs.now }
+        ensures masks { self.new.masks ≡ masks_of shape.now txs.now }
         ensures room { self.new.room ≡ self.old.room }
     {
         self.masks.clear();
         for tx in txs {
-            self.masks.push_reserved(mask(shards, tx));
+            self.masks.push_reserved(mask(shape, tx));
         }
         self.phase = LanePhase::Prepared(number);
     }

@@ -108,7 +108,7 @@ module _ (s : ℕ) (K : Shape) (m : Minted) where
   geneses_low : (n : ℕ) → rows_up_to s (geneses K m n ++ starts K m K.coordinators) ≡ geneses K m n ++ starts K m K.coordinators
   geneses_low zero = starts_low K.coordinators
   geneses_low (suc n) =
-      kept (record { node = shard_node K n; what = Genesis (header_of K m.id (shard_node K n)) (on_shard K.shards n m.hashes) })
+      kept (record { node = shard_node K n; what = Genesis (header_of K m.id (shard_node K n)) (on_shard K n m.hashes) })
       (geneses K m n ++ starts K m K.coordinators) refl (geneses_low n)
 
   pub first_low : rows_up_to s (first_rows K m) ≡ first_rows K m

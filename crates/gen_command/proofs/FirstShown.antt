@@ -25,12 +25,12 @@ use Rattle.submission_laws.specs.Files.{mint_journals}
 
 -- ---- first records are of the grammar
 
-pub on_length : (shards s : ℕ) (xs : List Digest) → length (on_shard shards s xs) ≤ length xs
-on_length shards s [] = omega arith
-on_length shards s (x ∷ xs) = elim (shard_of shards x == s) as
-    (λ c. length (if c then x ∷ on_shard shards s xs else on_shard shards s xs) ≤ length (x ∷ xs)) [
-      | true ↦ omega (arith, on_length shards s xs)
-      | false ↦ omega (arith, on_length shards s xs)
+pub on_length : (K : Shape) (s : ℕ) (xs : List Digest) → length (on_shard K s xs) ≤ length xs
+on_length K s [] = omega arith
+on_length K s (x ∷ xs) = elim (shard_of K x == s) as
+    (λ c. length (if c then x ∷ on_shard K s xs else on_shard K s xs) ≤ length (x ∷ xs)) [
+      | true ↦ omega (arith, on_length K s xs)
+      | false ↦ omega (arith, on_length K s xs)
     ]
 
 coin_is_hash : (c : Coin) → IsHash (coin_hash c)
@@ -50,24 +50,24 @@ made_hashes id k [] = All-nil IsHash
 made_hashes id k (o ∷ os) = All-cons IsHash (coin_hash (record { point = record { tx = id; index = k }; output = o }))
     (map coin_hash (made_coins id (suc k) os)) (coin_is_hash _) (made_hashes id (suc k) os)
 
-module _ (shards s : ℕ) where
-  on_all : (P : Digest → Type 0) (xs : List Digest) → All P xs → All P (on_shard shards s xs)
+module _ (K : Shape) (s : ℕ) where
+  on_all : (P : Digest → Type 0) (xs : List Digest) → All P xs → All P (on_shard K s xs)
   on_all P [] h = h
-  on_all P (x ∷ xs) h = elim (shard_of shards x == s) as (λ c. All P (if c then x ∷ on_shard shards s xs else on_shard shards s xs)) [
-    | true ↦ All-cons P x (on_shard shards s xs) (All-head P x xs h) (on_all P xs (All-tail P x xs h))
+  on_all P (x ∷ xs) h = elim (shard_of K x == s) as (λ c. All P (if c then x ∷ on_shard K s xs else on_shard K s xs)) [
+    | true ↦ All-cons P x (on_shard K s xs) (All-head P x xs h) (on_all P xs (All-tail P x xs h))
     | false ↦ on_all P xs (All-tail P x xs h)
   ]
 
-  on_here : (K : Shape) → K.shards ≡ shards → (xs : List Digest) → AreHere K (K.coordinators + s) (on_shard shards s xs)
-  on_here K is [] = All-nil (λ x. shard_node K (shard_of K.shards x) ≡ K.coordinators + s)
-  on_here K is (x ∷ xs) = go (shard_of shards x == s) refl (on_here K is xs)
+  on_here : (xs : List Digest) → AreHere K (K.coordinators + s) (on_shard K s xs)
+  on_here [] = All-nil (λ x. shard_node K (shard_of K x) ≡ K.coordinators + s)
+  on_here (x ∷ xs) = go (shard_of K x == s) refl (on_here xs)
     where
-      go : (b : Bool) → (shard_of shards x == s) ≡ b → AreHere K (K.coordinators + s) (on_shard shards s xs)
-          → All (λ x. shard_node K (shard_of K.shards x) ≡ K.coordinators + s) (if b then x ∷ on_shard shards s xs else on_shard shards s xs)
+      go : (b : Bool) → (shard_of K x == s) ≡ b → AreHere K (K.coordinators + s) (on_shard K s xs)
+          → All (λ x. shard_node K (shard_of K x) ≡ K.coordinators + s) (if b then x ∷ on_shard K s xs else on_shard K s xs)
       go true t rest =
-          let same : shard_of shards x ≡ s = grind (arith, t) in
-          All-cons (λ x. shard_node K (shard_of K.shards x) ≡ K.coordinators + s) x (on_shard shards s xs)
-          (ap (λ m. K.coordinators + shard_of m x) is ∙ ap (λ m. K.coordinators + m) same) rest
+          let same : shard_of K x ≡ s = grind (arith, t) in
+          All-cons (λ x. shard_node K (shard_of K x) ≡ K.coordinators + s) x (on_shard K s xs)
+          (ap (λ m. K.coordinators + m) same) rest
       go false t rest = rest
 
 module _ (K : Shape) (mint : List Output) (within : IsWithinLimits K) (few : length mint ≤ 1000000) where
@@ -78,13 +78,13 @@ module _ (K : Shape) (mint : List Output) (within : IsWithinLimits K) (few : len
       go : (b : Bool) → nat_lt n K.coordinators ≡ b
           → IsJournal (header_of K (genesis_id mint) n)
           ((if b then Start (header_of K (genesis_id mint) n)
-          else Genesis (header_of K (genesis_id mint) n) (on_shard K.shards (n - K.coordinators) (genesis_hashes mint))) ∷ [])
+          else Genesis (header_of K (genesis_id mint) n) (on_shard K (n - K.coordinators) (genesis_hashes mint))) ∷ [])
       go true t = (tt, ((refl, id_is_hash mint, ltb-true n K.coordinators t), refl))
       go false t =
           let high : K.coordinators ≤ n = ltb-false n K.coordinators t in
           let place : K.coordinators + (n - K.coordinators) ≡ n = omega (arith, high) in
           let long = made_length (genesis_id mint) 0 mint in
-          let short = on_length K.shards (n - K.coordinators) (genesis_hashes mint) in (
+          let short = on_length K (n - K.coordinators) (genesis_hashes mint) in (
             tt,
             (
               (
@@ -92,9 +92,9 @@ module _ (K : Shape) (mint : List Output) (within : IsWithinLimits K) (few : len
                 id_is_hash mint,
                 (high, omega (arith, inside)),
                 omega (arith, long, short, few),
-                on_all K.shards (n - K.coordinators) IsHash (genesis_hashes mint) (made_hashes (genesis_id mint) 0 mint),
-                subst (λ m. AreHere K m (on_shard K.shards (n - K.coordinators) (genesis_hashes mint))) place
-                    (on_here K.shards (n - K.coordinators) K refl (genesis_hashes mint)),
+                on_all K (n - K.coordinators) IsHash (genesis_hashes mint) (made_hashes (genesis_id mint) 0 mint),
+                subst (λ m. AreHere K m (on_shard K (n - K.coordinators) (genesis_hashes mint))) place
+                    (on_here K (n - K.coordinators) (genesis_hashes mint)),
               ),
               refl,
             ),

@@ -121,11 +121,11 @@ module _ (K : Shape) (seed n : ℕ) (small : n ≤ 10000) where
   first_fits node = go (nat_lt node K.coordinators)
     where
       go : (b : Bool) → size_of (if b then Start (header_of K (genesis_id (mint_of seed n)) node)
-          else Genesis (header_of K (genesis_id (mint_of seed n)) node)
-          (on_shard K.shards (node - K.coordinators) (genesis_hashes (mint_of seed n)))) + 1 ≤ 4096 + 400 * n
+          else Genesis (header_of K (genesis_id (mint_of seed n)) node) (on_shard K (node - K.coordinators) (genesis_hashes (mint_of seed n)))) + 1
+          ≤ 4096 + 400 * n
       go true = omega arith
       go false =
-          let here = on_length K.shards (node - K.coordinators) (genesis_hashes (mint_of seed n)) in
+          let here = on_length K (node - K.coordinators) (genesis_hashes (mint_of seed n)) in
           let all = made_length (genesis_id (mint_of seed n)) 0 (mint_of seed n) in
           let few = minted_few in
           omega (arith, here, all, few)

@@ -126,17 +126,16 @@ below_and s n false h = (grind (arith, h), refl)
 
 part_fit : (h : Header) (K : Shape) (s : ℕ) (es : List Entry) (txs : List Compact) → h.shape ≡ K → h.node ≡ shard_node K s → length txs ≤ K.batch
     → All IsCompact txs
-    → is_no_part (part K.shards s 0 txs) ≡ false → es ≡ part K.shards s 0 txs → IsFitPart h es
+    → is_no_part (part K s 0 txs) ≡ false → es ≡ part K s 0 txs → IsFitPart h es
 part_fit h K s es txs e node size all some is =
-    subst (λ K. h.node ≡ shard_node K s → length txs ≤ K.batch → is_no_part (part K.shards s 0 txs) ≡ false → es ≡ part K.shards s 0 txs
-    → IsFitPart h es) e
+    subst (λ K. h.node ≡ shard_node K s → length txs ≤ K.batch → is_no_part (part K s 0 txs) ≡ false → es ≡ part K s 0 txs → IsFitPart h es) e
     (λ node size some is. subst (λ es. IsFitPart h es) (sym is) (part_fits h txs s size all node some)) node size some is
 
 module _ (K : Shape) (I : ℕ → Sight) (txs : List Compact) (ledger : AreShardsOf K I) (size : length txs ≤ K.batch) (all : All IsCompact txs) where
   every_fit : (ps : List (ℕ × List Entry)) → Every (IsPart K txs) ps → AreFitParts I ps
   every_fit [] every = All-nil (λ p. IsFitPart (I p.0).header p.1)
   every_fit (p ∷ ps) every =
-      let here = below_and p.0 K.shards (is_no_part (part K.shards p.0 0 txs)) every.0.0 in
+      let here = below_and p.0 K.shards (is_no_part (part K p.0 0 txs)) every.0.0 in
       let at = ledger p.0 here.0 in
       All-cons (λ p. IsFitPart (I p.0).header p.1) p ps (part_fit (I p.0).header K p.0 p.1 txs at.0 at.1 size all here.1 every.0.1)
       (every_fit ps every.1)

@@ -8,7 +8,7 @@ use Rattle.cbdc_types.specs.declared.calls.ForgetCall.{ForgetCall}
 use Rattle.cbdc_types.specs.declared.calls.Replied.{Replied}
 use Rattle.cbdc_types.specs.declared.calls.NodeFault.{NodeFault}
 use Rattle.cbdc_types.specs.declared.calls.NodeFault.TheVariants.{Broken}
-use Rattle.cbdc_model.specs.Records.{Batch, Compact, Entry, Digest, Outcome, Record, Shape, is_held, is_in_lane, record_of, lock_of, last_stamp}
+use Rattle.cbdc_model.specs.Records.{Batch, Compact, Entry, Digest, Outcome, Record, Shape, is_held, tells_lane, record_of, lock_of, last_stamp}
 use Rattle.cbdc_model.specs.Records.{stamp_in, txs_in, outcomes_in, entries_in, Finish, Forget, Prepare, Commit, Discard}
 use Rattle.cbdc_model.specs.Replies.{entries, answered, reply_to}
 use Rattle.cbdc_model.specs.Causes.{IsCaused}
@@ -36,7 +36,7 @@ OkUnless fails a = (fails ≡ true) ⊎ Fine a
 
 -- the record is the lane's, and was caused by what the lane saw
 abbrev pub Owes : Shape → List (List Compact) → ℕ → (ℕ → List Record) → ℕ → List Record → Record → Type 0
-Owes K pieces lane I n found r = (is_in_lane lane r ≡ true) × Holds pieces r × IsCaused K (replaced I n found) n r
+Owes K pieces lane I n found r = (tells_lane lane r ≡ true) × Holds pieces r × IsCaused K (replaced I n found) n r
 
 pub call_step : {A : Type 0} (K : Shape) (pieces : List (List Compact)) (alone : Bool) (lane : ℕ) (fails memory : Bool) (I : ℕ → List Record) (n : ℕ)
     (old new : Sight)
@@ -113,11 +113,10 @@ module _ (K : Shape) (pieces : List (List Compact)) (alone : Bool) (lane number 
       go (asked_at (LockAnswer alone) (IsPartLock K txs B t) (OkUnless fails) I J s cs answers each calls.every good)
     where
       call : LockCall
-      call = record { batch = B; part = part K.shards s 0 txs; cause = t }
+      call = record { batch = B; part = part K s 0 txs; cause = t }
 
       owes : (found : List Record) → Finds alone lane (I s).seen found
-          → Owes K pieces lane (view K lane log I) (shard_node K s) found
-          (lock_record found (record { batch = B; part = part K.shards s 0 txs; cause = t }))
+          → Owes K pieces lane (view K lane log I) (shard_node K s) found (lock_record found (record { batch = B; part = part K s 0 txs; cause = t }))
       owes found f =
           let cause : record_of 6 (replaced (view K lane log I) (shard_node K s) found (home_of K lane)) B ≡ Some (Prepare t B txs) =
           ap (λ L. record_of 6 L B) (home_read log I s found) ∙ prepare in (
@@ -125,8 +124,8 @@ module _ (K : Shape) (pieces : List (List Compact)) (alone : Bool) (lane number 
             tt,
             (
               ap is_some cause,
-              λ s' e. entries_answered found B (part K.shards s 0 txs) [] ∙ ap (λ n. part K.shards n 0 txs) (same_shard K.coordinators s s' e)
-                  ∙ ap (λ o. part K.shards s' 0 (txs_in o)) (sym cause),
+              λ s' e. entries_answered found B (part K s 0 txs) [] ∙ ap (λ n. part K n 0 txs) (same_shard K.coordinators s s' e)
+                  ∙ ap (λ o. part K s' 0 (txs_in o)) (sym cause),
               sym (λ i. suc (max (last_stamp (here log I s found i)) (stamp_in (cause i)))),
             ),
           )
@@ -135,36 +134,36 @@ module _ (K : Shape) (pieces : List (List Compact)) (alone : Bool) (lane number 
           same_shard c s s' e = omega arith
 
       answer : (a : Result Replied NodeFault) → OkUnless fails a
-          → LockAnswer alone (s, record { batch = B; part = part K.shards s 0 txs; cause = t }) (I s) (J s) a → ShardStep log I J s
+          → LockAnswer alone (s, record { batch = B; part = part K s 0 txs; cause = t }) (I s) (J s) a → ShardStep log I J s
       answer a ok told = call_step K pieces alone lane fails true (view K lane log I) (shard_node K s) (I s) (J s)
-          (λ L. lock_by (next_lock L B (part K.shards s 0 txs) t) (I s).header.shape (I s).capacity L
-          (record { batch = B; part = part K.shards s 0 txs; cause = t }))
-          (λ L. lock_record L (record { batch = B; part = part K.shards s 0 txs; cause = t })) (view_shard K lane home log I s)
-          (λ L n e. lock_unbroken (I s).header.shape (I s).capacity L (record { batch = B; part = part K.shards s 0 txs; cause = t })
-          (next_lock L B (part K.shards s 0 txs) t) n e)
-          (λ L b r e. (lock_wrote (I s).header.shape (I s).capacity L (record { batch = B; part = part K.shards s 0 txs; cause = t })
-          (next_lock L B (part K.shards s 0 txs) t) b r e).3)
+          (λ L. lock_by (next_lock L B (part K s 0 txs) t) (I s).header.shape (I s).capacity L
+          (record { batch = B; part = part K s 0 txs; cause = t }))
+          (λ L. lock_record L (record { batch = B; part = part K s 0 txs; cause = t })) (view_shard K lane home log I s)
+          (λ L n e. lock_unbroken (I s).header.shape (I s).capacity L (record { batch = B; part = part K s 0 txs; cause = t })
+          (next_lock L B (part K s 0 txs) t) n e)
+          (λ L b r e. (lock_wrote (I s).header.shape (I s).capacity L (record { batch = B; part = part K s 0 txs; cause = t })
+          (next_lock L B (part K s 0 txs) t) b r e).3)
           owes a ok told
 
       go : AskedAt (LockAnswer alone) (IsPartLock K txs B t) (OkUnless fails) cs I J s → ShardStep log I J s
       go (no_call n) = untouched log I J s (others s n)
       go (one_call c h e a ok told) = answer a ok (subst (λ (d : ℕ × LockCall). LockAnswer alone d (I s) (J s) a)
-          (λ i. (e i, (h.1 ∙ ap (λ (n : ℕ). let d : LockCall = record { batch = B; part = part K.shards n 0 txs; cause = t } in d) e) i)) told)
+          (λ i. (e i, (h.1 ∙ ap (λ (n : ℕ). let d : LockCall = record { batch = B; part = part K n 0 txs; cause = t } in d) e) i)) told)
 
   -- Finish
   pub finishes_step : (os : List Outcome) (t : ℕ) (log : Sight) (I J : ℕ → Sight) (cs : List (ℕ × FinishCall)) (answers : List (Result ℕ NodeFault))
       → record_of 7 log.seen B ≡ Some (Commit t B os)
-      → ((s : ℕ) → is_concerned K txs s ≡ true → entries (lock_of (I s).seen B) ≡ part K.shards s 0 txs)
+      → ((s : ℕ) → is_concerned K txs s ≡ true → entries (lock_of (I s).seen B) ≡ part K s 0 txs)
       → AreFinishes K txs os B t cs → EachTold (FinishAnswer alone) cs answers I J → Others cs I J → Every (OkUnless fails) answers → (s : ℕ)
       → ShardStep log I J s
   finishes_step os t log I J cs answers commit locks calls each others good s =
       go (asked_at (FinishAnswer alone) (IsPartFinish K txs os B t) (OkUnless fails) I J s cs answers each calls.every good)
     where
       ds : List Bool
-      ds = decisions os (part K.shards s 0 txs)
+      ds = decisions os (part K s 0 txs)
 
       owes : is_concerned K txs s ≡ true → (found : List Record) → Finds alone lane (I s).seen found
-          → Owes K pieces lane (view K lane log I) (shard_node K s) found (Finish (next_stamp found t) B (decisions os (part K.shards s 0 txs)))
+          → Owes K pieces lane (view K lane log I) (shard_node K s) found (Finish (next_stamp found t) B (decisions os (part K s 0 txs)))
       owes c found f =
           let cause : record_of 7 (replaced (view K lane log I) (shard_node K s) found (home_of K lane)) B ≡ Some (Commit t B os) =
           ap (λ L. record_of 7 L B) (home_read log I s found) ∙ commit in (
@@ -180,21 +179,18 @@ module _ (K : Shape) (pieces : List (List Compact)) (alone : Bool) (lane number 
           )
 
       wrote : (L : List Record) (b : ℕ) (r : Record)
-          → stamp_by (next_finish L B (decisions os (part K.shards s 0 txs)) t) (Finish (next_stamp L t) B (decisions os (part K.shards s 0 txs)))
-          ≡ Writes b r
-          → r ≡ Finish (next_stamp L t) B (decisions os (part K.shards s 0 txs))
-      wrote L b r e = (stamp_wrote (next_finish L B (decisions os (part K.shards s 0 txs)) t)
-          (Finish (next_stamp L t) B (decisions os (part K.shards s 0 txs))) b r e).1
+          → stamp_by (next_finish L B (decisions os (part K s 0 txs)) t) (Finish (next_stamp L t) B (decisions os (part K s 0 txs))) ≡ Writes b r
+          → r ≡ Finish (next_stamp L t) B (decisions os (part K s 0 txs))
+      wrote L b r e = (stamp_wrote (next_finish L B (decisions os (part K s 0 txs)) t) (Finish (next_stamp L t) B (decisions os (part K s 0 txs))) b
+          r e).1
 
       answer : is_concerned K txs s ≡ true → (a : Result ℕ NodeFault) → OkUnless fails a
-          → FinishAnswer alone (s, record { batch = B; decisions = decisions os (part K.shards s 0 txs); cause = t }) (I s) (J s) a
-          → ShardStep log I J s
+          → FinishAnswer alone (s, record { batch = B; decisions = decisions os (part K s 0 txs); cause = t }) (I s) (J s) a → ShardStep log I J s
       answer c a ok told = call_step K pieces alone lane fails false (view K lane log I) (shard_node K s) (I s) (J s)
-          (λ L. stamp_by (next_finish L B (decisions os (part K.shards s 0 txs)) t)
-          (Finish (next_stamp L t) B (decisions os (part K.shards s 0 txs))))
-          (λ L. Finish (next_stamp L t) B (decisions os (part K.shards s 0 txs))) (view_shard K lane home log I s)
-          (λ L n e. stamp_unbroken (next_finish L B (decisions os (part K.shards s 0 txs)) t)
-          (Finish (next_stamp L t) B (decisions os (part K.shards s 0 txs))) n e)
+          (λ L. stamp_by (next_finish L B (decisions os (part K s 0 txs)) t) (Finish (next_stamp L t) B (decisions os (part K s 0 txs))))
+          (λ L. Finish (next_stamp L t) B (decisions os (part K s 0 txs))) (view_shard K lane home log I s)
+          (λ L n e. stamp_unbroken (next_finish L B (decisions os (part K s 0 txs)) t) (Finish (next_stamp L t) B (decisions os (part K s 0 txs))) n
+          e)
           wrote (owes c) a ok told
 
       go : AskedAt (FinishAnswer alone) (IsPartFinish K txs os B t) (OkUnless fails) cs I J s → ShardStep log I J s
@@ -203,7 +199,7 @@ module _ (K : Shape) (pieces : List (List Compact)) (alone : Bool) (lane number 
           (subst (λ (d : ℕ × FinishCall). FinishAnswer alone d (I s) (J s) a)
           (λ i. (
             e i,
-            (h.1 ∙ ap (λ (n : ℕ). let d : FinishCall = record { batch = B; decisions = decisions os (part K.shards n 0 txs); cause = t } in d) e) i,
+            (h.1 ∙ ap (λ (n : ℕ). let d : FinishCall = record { batch = B; decisions = decisions os (part K n 0 txs); cause = t } in d) e) i,
           )) told)
 
   -- Forget

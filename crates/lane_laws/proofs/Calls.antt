@@ -61,7 +61,7 @@ module _ (K : Shape) (txs : List Compact) (b : Batch) where
       (λ c p. (p.0, refl)) locks are
 
 pub in_range : (K : Shape) (txs : List Compact) (s : ℕ) → is_concerned K txs s ≡ true → s < K.shards
-in_range K txs s c = numbers s K.shards (not (is_no_part (part K.shards s 0 txs))) c
+in_range K txs s c = numbers s K.shards (not (is_no_part (part K s 0 txs))) c
   where
     numbers : (s n : ℕ) (a : Bool) → (nat_lt s n && a) ≡ true → s < n
     numbers s n a h = grind (arith, h)

@@ -13,12 +13,11 @@ use Rattle.ledger_laws.proofs.Repeats.{rising_part, agrees_rising, fits_decision
 -- the decisions for the part of a shard, by the replies of all, fit the shard's own
 module _ (K : Shape) (txs : List Compact) (rs : List ShardReplies) (s : ℕ) (below : s < K.shards) where
   abbrev at : ℕ → List Answered
-  at k = answered_with (part K.shards k 0 txs) (replies_in (replies_at rs k))
+  at k = answered_with (part K k 0 txs) (replies_in (replies_at rs k))
 
-  pub decided_fits : (es : List Answered) → es ≡ at s → entries es ≡ part K.shards s 0 txs
-      → FitsReplies es (decisions (decided K txs rs) (part K.shards s 0 txs))
+  pub decided_fits : (es : List Answered) → es ≡ at s → entries es ≡ part K s 0 txs → FitsReplies es (decisions (decided K txs rs) (part K s 0 txs))
   decided_fits es is parts = subst (λ p. FitsReplies es (decisions (decided K txs rs) p)) parts
       (fits_decisions (decided K txs rs) es
-      (agrees_rising (won_at (decided K txs rs)) 0 es (rising_part K.shards s 0 txs es parts)
+      (agrees_rising (won_at (decided K txs rs)) 0 es (rising_part K s 0 txs es parts)
       (λ j r le found won. outcome_held at (0 + j) 0 K.shards s r (won_at-outcomes at K.shards 0 txs j won) (omega arith) (omega (arith, below))
       (subst (λ i. reply_at (at s) i ≡ Some r) (omega arith) (subst (λ l. reply_at l j ≡ Some r) is found)))))

@@ -1,6 +1,6 @@
 -- What the lock's end says of a lane's seats gives what it left; and then what the lane had seen of itself holds of the final journals.
 use Rattle.std.proofs.Common.{◌≡◌, ℕ, suc, ◌+◌, true, false, List, [], ◌∷◌, ◌++◌, length, length-append, refl, sym, ap, ◌∙◌, arith}
-use Rattle.cbdc_model.specs.Records.{Record, is_in_lane}
+use Rattle.cbdc_model.specs.Records.{Record, tells_lane}
 use Rattle.cbdc_model.specs.Slots.{slot, Idle}
 use Rattle.cbdc_model.specs.Lanes.{IsEnd, Left}
 use Rattle.lane_laws.specs.Batches.{own, prepares_txs, prepared_of}
@@ -8,7 +8,7 @@ use Rattle.lane_laws.proofs.Own.{own_in, own_out, slot_own}
 
 own-append : (lane : ℕ) (A B : List Record) → own lane (A ++ B) ≡ own lane A ++ own lane B
 own-append lane [] B = refl
-own-append lane (r ∷ A) B = elim (is_in_lane lane r) as (λ t. is_in_lane lane r ≡ t → own lane (r ∷ (A ++ B)) ≡ own lane (r ∷ A) ++ own lane B) [
+own-append lane (r ∷ A) B = elim (tells_lane lane r) as (λ t. tells_lane lane r ≡ t → own lane (r ∷ (A ++ B)) ≡ own lane (r ∷ A) ++ own lane B) [
   | true ↦ λ t. own_in lane r (A ++ B) t ∙ ap (λ L. r ∷ L) (own-append lane A B) ∙ ap (λ L. L ++ own lane B) (sym (own_in lane r A t))
   | false ↦ λ t. own_out lane r (A ++ B) t ∙ own-append lane A B ∙ ap (λ L. L ++ own lane B) (sym (own_out lane r A t))
 ] refl
@@ -17,8 +17,8 @@ own-append lane (r ∷ A) B = elim (is_in_lane lane r) as (λ t. is_in_lane lane
 pub left_of_own : (lane : ℕ) (J X : ℕ → List Record) → ((n : ℕ) → IsEnd (J n) (X n)) → ((n : ℕ) → own lane (X n) ≡ own lane (J n)) → Left lane J X
 left_of_own lane J X ends same = record { more = λ n. (ends n).0; is = λ n. (ends n).1; others = λ n newer rest r e. none n newer rest r e }
   where
-    none : (n : ℕ) (newer rest : List Record) (r : Record) → (ends n).0 ≡ newer ++ r ∷ rest → is_in_lane lane r ≡ false
-    none n newer rest r e = elim (is_in_lane lane r) as (λ t. is_in_lane lane r ≡ t → t ≡ false) [
+    none : (n : ℕ) (newer rest : List Record) (r : Record) → (ends n).0 ≡ newer ++ r ∷ rest → tells_lane lane r ≡ false
+    none n newer rest r e = elim (tells_lane lane r) as (λ t. tells_lane lane r ≡ t → t ≡ false) [
       | false ↦ λ t. refl
       | true ↦ λ t. absurd (
           let a : own lane (X n) ≡ own lane (newer ++ r ∷ rest) ++ own lane (J n) =
@@ -31,7 +31,7 @@ left_of_own lane J X ends same = record { more = λ n. (ends n).0; is = λ n. (e
           omega arith)
     ] refl
 
-own_none : (lane : ℕ) (more : List Record) → ((newer rest : List Record) (r : Record) → more ≡ newer ++ r ∷ rest → is_in_lane lane r ≡ false)
+own_none : (lane : ℕ) (more : List Record) → ((newer rest : List Record) (r : Record) → more ≡ newer ++ r ∷ rest → tells_lane lane r ≡ false)
     → own lane more ≡ []
 own_none lane [] h = refl
 own_none lane (r ∷ more) h = own_out lane r more (h [] more r refl) ∙ own_none lane more (λ newer rest q e. h (r ∷ newer) rest q (ap (λ L. r ∷ L) e))

@@ -4,7 +4,7 @@ use Rattle.std.proofs.Common.{is_some, Result, Ok, Err, refl, sym, ap, ◌∙◌
 use Rattle.cbdc_types.specs.declared.calls.NodeFault.{NodeFault}
 use Rattle.cbdc_types.specs.declared.calls.NodeFault.TheVariants.{Broken, Refused as Refuses, ClockEnd, Full, DiskFault, Memory}
 use Rattle.cbdc_types.specs.declared.batch.ShardReplies.{ShardReplies}
-use Rattle.cbdc_model.specs.Records.{Batch, same_batch, Compact, Outcome, Record, Shape, is_in_lane, record_of, lock_of, txs_of, last_stamp, stamp_of}
+use Rattle.cbdc_model.specs.Records.{Batch, same_batch, Compact, Outcome, Record, Shape, tells_lane, record_of, lock_of, txs_of, last_stamp, stamp_of}
 use Rattle.cbdc_model.specs.Records.{stamp_in, txs_in, entries_in, Prepare, Commit, Discard, Done}
 use Rattle.cbdc_model.specs.Slots.{slot, Idle, InCommit, InDiscard}
 use Rattle.cbdc_model.specs.Replies.{entries}
@@ -32,7 +32,7 @@ use Rattle.lane_laws.proofs.Tellings.{Wrote, Stood, Stopped, FaultBy, told_ok, t
 use Rattle.lane_laws.proofs.Asked.{call_step}
 
 pub concerned_is : (K : Shape) (txs : List Compact) (s : ℕ) → Concerned K txs s → is_concerned K txs s ≡ true
-concerned_is K txs s c = numbers s K.shards (is_no_part (part K.shards s 0 txs)) c.0 c.1
+concerned_is K txs s c = numbers s K.shards (is_no_part (part K s 0 txs)) c.0 c.1
   where
     numbers : (s n : ℕ) (a : Bool) → s < n → a ≡ false → (nat_lt s n && not a) ≡ true
     numbers s n a lt h = grind (arith, h)
@@ -53,7 +53,7 @@ pub record LogFailed (lane : ℕ) (log log' : Sight) (f : NodeFault) : Type 0 wh
 
 pub wrote_step : {A : Type 0} (alone : Bool) (lane : ℕ) (by : List Record → Due A) (log log' : Sight) (a : A) (r : Record) (cause : ℕ)
     (w : Wrote alone lane by log log' a) → w.what ≡ r
-    → is_in_lane lane r ≡ true → stamp_of r ≡ next_stamp w.found cause → LogStep lane log log' r
+    → tells_lane lane r ≡ true → stamp_of r ≡ next_stamp w.found cause → LogStep lane log log' r
 wrote_step alone lane by log log' a r cause w is i stamp = record {
   seen = w.found;
   seen_is = at_end;
@@ -78,7 +78,7 @@ stopped_same alone lane memory by log log' f s = record
 module _ (K : Shape) (pieces : List (List Compact)) (alone : Bool) (lane : ℕ) (home : home_of K lane < K.coordinators) (log log' : Sight)
     (shards : ℕ → Sight) (m : ℕ) (next : List Record → Record) (named : ℕ → Record)
     (is : (found : List Record) → Finds alone lane log.seen found → next found ≡ named (next_stamp found m))
-    (lane_is : (n : ℕ) → is_in_lane lane (named n) ≡ true) (stamp_is : (n : ℕ) → stamp_of (named n) ≡ n)
+    (lane_is : (n : ℕ) → tells_lane lane (named n) ≡ true) (stamp_is : (n : ℕ) → stamp_of (named n) ≡ n)
     (holds : (n : ℕ) → Holds pieces (named n)) (caused : (found : List Record) → Finds alone lane log.seen found
     → IsCaused K (replaced (view K lane log shards) (home_of K lane) found) (home_of K lane) (named (next_stamp found m))) where
   abbrev by : List Record → Due ℕ
@@ -92,7 +92,7 @@ module _ (K : Shape) (pieces : List (List Compact)) (alone : Bool) (lane : ℕ) 
       (λ L s e. late_unbroken (next_stamp L m) (next_stamp L m) (next L) s e)
       (λ L a r e. (late_wrote (next_stamp L m) (next_stamp L m) a (next L) r e).1)
       (λ found f. (
-        subst (λ r. is_in_lane lane r ≡ true) (sym (is found f)) (lane_is (next_stamp found m)),
+        subst (λ r. tells_lane lane r ≡ true) (sym (is found f)) (lane_is (next_stamp found m)),
         subst (λ r. Holds pieces r) (sym (is found f)) (holds (next_stamp found m)),
         subst (λ r. IsCaused K (replaced (view K lane log shards) (home_of K lane) found) (home_of K lane) r) (sym (is found f)) (caused found f),
       ))
@@ -160,11 +160,11 @@ module _ (K : Shape) (lane number : ℕ) (txs : List Compact) where
 
   -- what they have of Lock, by the replies
   pub record LooksLock (rs : List ShardReplies) (shards : ℕ → Sight) (s : ℕ) : Type 0 where
-    pub entries_are : entries_in (record_of 2 (shards s).seen named_batch) ≡ answered_with (part K.shards s 0 txs) (replies_in (replies_at rs s))
+    pub entries_are : entries_in (record_of 2 (shards s).seen named_batch) ≡ answered_with (part K s 0 txs) (replies_in (replies_at rs s))
     pub stamp_is : stamp_in (record_of 2 (shards s).seen named_batch) ≡ reply_stamp (replies_at rs s)
     pub some : is_concerned K txs s ≡ true → is_some (record_of 2 (shards s).seen named_batch) ≡ true
-    pub part_is : is_concerned K txs s ≡ true → entries (lock_of (shards s).seen named_batch) ≡ part K.shards s 0 txs
-    pub replied : s < K.shards → length (replies_in (replies_at rs s)) ≡ length (part K.shards s 0 txs)
+    pub part_is : is_concerned K txs s ≡ true → entries (lock_of (shards s).seen named_batch) ≡ part K s 0 txs
+    pub replied : s < K.shards → length (replies_in (replies_at rs s)) ≡ length (part K s 0 txs)
 
 module _ (K : Shape) (pieces : List (List Compact)) (alone : Bool) (lane number : ℕ) (home : home_of K lane < K.coordinators) (txs : List Compact)
   where

@@ -109,18 +109,18 @@ module _ (K : Shape) (pieces : List (List Compact)) (alone : Bool) (lane number 
         at : (M X : ℕ → Sight) → Quiet log I M → (s : ℕ) (c : ℕ × LockCall) → IsPartLock K txs B t c → c.0 ≡ s → (a : Result Replied NodeFault)
             → LockAnswer alone c (M s) (X s) a → Silent alone lane (M s) (X s)
         at M X q s c h e a told = silent alone lane true
-            (λ L. lock_by (next_lock L B (part K.shards s 0 txs) t) (M s).header.shape (M s).capacity L
-            (record { batch = B; part = part K.shards s 0 txs; cause = t })) (M s) (X s)
-            (λ L m. lock_unbroken (M s).header.shape (M s).capacity L (record { batch = B; part = part K.shards s 0 txs; cause = t })
-            (next_lock L B (part K.shards s 0 txs) t) m)
+            (λ L. lock_by (next_lock L B (part K s 0 txs) t) (M s).header.shape (M s).capacity L
+            (record { batch = B; part = part K s 0 txs; cause = t })) (M s) (X s)
+            (λ L m. lock_unbroken (M s).header.shape (M s).capacity L (record { batch = B; part = part K s 0 txs; cause = t })
+            (next_lock L B (part K s 0 txs) t) m)
             (λ found f b r w.
-            let p = lock_wrote (M s).header.shape (M s).capacity found (record { batch = B; part = part K.shards s 0 txs; cause = t })
-            (next_lock found B (part K.shards s 0 txs) t) b r w in
+            let p = lock_wrote (M s).header.shape (M s).capacity found (record { batch = B; part = part K s 0 txs; cause = t })
+            (next_lock found B (part K s 0 txs) t) b r w in
             differs (slot found lane).number (ap (λ z. z.number) (finds_slot alone lane (M s).seen found f ∙ same_slot log I M q s)
             ∙ numbers s (subst (λ m. is_concerned K txs m ≡ true) e h.0))
-            (lock_new found B (part K.shards s 0 txs) t p.0 p.1).0)
+            (lock_new found B (part K s 0 txs) t p.0 p.1).0)
             a (subst (λ (d : ℕ × LockCall). LockAnswer alone d (M s) (X s) a)
-            (λ i. (e i, (h.1 ∙ ap (λ (n : ℕ). let d : LockCall = record { batch = B; part = part K.shards n 0 txs; cause = t } in d) e) i)) told)
+            (λ i. (e i, (h.1 ∙ ap (λ (n : ℕ). let d : LockCall = record { batch = B; part = part K n 0 txs; cause = t } in d) e) i)) told)
 
     -- Finish, where no shard is locked
     pub finishes_quiet : (log : Sight) (os : List Outcome) (t n : ℕ) (I J : ℕ → Sight) (cs : List (ℕ × FinishCall)) → AreFinishes K txs os B t cs
@@ -133,20 +133,20 @@ module _ (K : Shape) (pieces : List (List Compact)) (alone : Bool) (lane number 
         at : (M X : ℕ → Sight) → Quiet log I M → (s : ℕ) (c : ℕ × FinishCall) → IsPartFinish K txs os B t c → c.0 ≡ s → (a : Result ℕ NodeFault)
             → FinishAnswer alone c (M s) (X s) a → Silent alone lane (M s) (X s)
         at M X q s c h e a told = silent alone lane false
-            (λ L. stamp_by (next_finish L B (decisions os (part K.shards s 0 txs)) t)
-            (Finish (next_stamp L t) B (decisions os (part K.shards s 0 txs)))) (M s) (X s)
-            (λ L m. stamp_unbroken (next_finish L B (decisions os (part K.shards s 0 txs)) t)
-            (Finish (next_stamp L t) B (decisions os (part K.shards s 0 txs))) m)
+            (λ L. stamp_by (next_finish L B (decisions os (part K s 0 txs)) t) (Finish (next_stamp L t) B (decisions os (part K s 0 txs)))) (M s)
+            (X s)
+            (λ L m. stamp_unbroken (next_finish L B (decisions os (part K s 0 txs)) t) (Finish (next_stamp L t) B (decisions os (part K s 0 txs))) m)
             (λ found f b r w.
-            let p = stamp_wrote (next_finish found B (decisions os (part K.shards s 0 txs)) t)
-            (Finish (next_stamp found t) B (decisions os (part K.shards s 0 txs))) b r w in
+            let p = stamp_wrote (next_finish found B (decisions os (part K s 0 txs)) t)
+            (Finish (next_stamp found t) B (decisions os (part K s 0 txs)))
+            b r w in
             unlocked s (subst (λ m. is_concerned K txs m ≡ true) e h.0)
             (ap (λ z. z.phase) (sym (finds_slot alone lane (M s).seen found f ∙ same_slot log I M q s))
-            ∙ (finish_new found B (decisions os (part K.shards s 0 txs)) t b p.0).0))
+            ∙ (finish_new found B (decisions os (part K s 0 txs)) t b p.0).0))
             a (subst (λ (d : ℕ × FinishCall). FinishAnswer alone d (M s) (X s) a)
             (λ i. (
               e i,
-              (h.1 ∙ ap (λ (n : ℕ). let d : FinishCall = record { batch = B; decisions = decisions os (part K.shards n 0 txs); cause = t } in d) e) i,
+              (h.1 ∙ ap (λ (n : ℕ). let d : FinishCall = record { batch = B; decisions = decisions os (part K n 0 txs); cause = t } in d) e) i,
             )) told)
 
     -- Forget, where no shard has finished and not forgotten

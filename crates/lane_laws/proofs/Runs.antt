@@ -130,7 +130,7 @@ module _ (K : Shape) (pieces : List (List Compact)) (alone : Bool) (lane number 
       pub number_is : is_concerned K txs s ≡ true → (slot (J s).seen lane).number ≡ number
       pub idle : is_concerned K txs s ≡ true → (slot (J s).seen lane).phase ≡ Idle
       pub adds : is_concerned K txs s ≡ true → (slot (I s).seen lane).phase ≡ InLock
-          → own lane (J s).seen ≡ Forget (ends s) B ∷ Finish (fins s) B (decisions os (part K.shards s 0 txs)) ∷ own lane (I s).seen
+          → own lane (J s).seen ≡ Forget (ends s) B ∷ Finish (fins s) B (decisions os (part K s 0 txs)) ∷ own lane (I s).seen
 
     pub record CommittedRun (os : List Outcome) (log log' : Sight) (I J : ℕ → Sight) : Type 0 where
       pub moved : Moved K pieces alone lane log I log' J
@@ -163,11 +163,11 @@ module _ (K : Shape) (pieces : List (List Compact)) (alone : Bool) (lane number 
       pub finished : (s : ℕ) → is_concerned K txs s ≡ true → (slot (J s).seen lane).phase ≡ InFinish
       pub others : (s : ℕ) → is_concerned K txs s ≡ false → own lane (J s).seen ≡ own lane (I s).seen
       pub adds : (s : ℕ) → is_concerned K txs s ≡ true → (slot (I s).seen lane).phase ≡ InLock
-          → own lane (J s).seen ≡ Finish (fins s) B (decisions os (part K.shards s 0 txs)) ∷ own lane (I s).seen
+          → own lane (J s).seen ≡ Finish (fins s) B (decisions os (part K s 0 txs)) ∷ own lane (I s).seen
 
     pub finishes_run : (log : Sight) (I M J : ℕ → Sight) (u tc m : ℕ) (os : List Outcome) (repeats : ℕ) (locks : List (ℕ × LockCall))
         → record_of 7 log.seen B ≡ Some (Commit tc B os)
-        → ((s : ℕ) → is_concerned K txs s ≡ true → entries (lock_in (I s).seen B) ≡ part K.shards s 0 txs)
+        → ((s : ℕ) → is_concerned K txs s ≡ true → entries (lock_in (I s).seen B) ≡ part K s 0 txs)
         → ((s : ℕ) → is_concerned K txs s ≡ false → record_of 3 (I s).seen B ≡ None) → AreLocks K txs B u locks
         → (f : Stamped (FinishAnswer alone) (map (finish_call_of B tc os) locks) I M m)
         → AskedTimes (FinishAnswer alone) (map (finish_call_of B tc os) locks) repeats M J
@@ -202,7 +202,7 @@ module _ (K : Shape) (pieces : List (List Compact)) (alone : Bool) (lane number 
 
     module _ (log log' : Sight) (I J : ℕ → Sight) (t u tc : ℕ) (os : List Outcome) (repeats : ℕ) (locks : List (ℕ × LockCall))
         (o : Open K lane number txs log t) (commit : record_of 7 log.seen B ≡ Some (Commit tc B os))
-        (part_is : (s : ℕ) → is_concerned K txs s ≡ true → entries (lock_in (I s).seen B) ≡ part K.shards s 0 txs)
+        (part_is : (s : ℕ) → is_concerned K txs s ≡ true → entries (lock_in (I s).seen B) ≡ part K s 0 txs)
         (none : (s kind : ℕ) → (kind ≡ 3) ⊎ (kind ≡ 4) → is_concerned K txs s ≡ false → record_of kind (I s).seen B ≡ None)
         (are : AreLocks K txs B u locks) (told : ToldCommitted alone B tc os repeats locks log log' I J) where
       fins_run : FinishesRun log I told.before_discard os told.finished
@@ -283,7 +283,7 @@ module _ (K : Shape) (pieces : List (List Compact)) (alone : Bool) (lane number 
       pub slot_is : is_concerned K txs s ≡ true → ((slot (J s).seen lane).phase ≡ InLock) ⊎ (slot (J s).seen lane ≡ slot (I s).seen lane)
       pub others : is_concerned K txs s ≡ false → own lane (J s).seen ≡ own lane (I s).seen
       pub adds : is_concerned K txs s ≡ true
-          → (own lane (J s).seen ≡ Lock (reply_stamp (replies_at rs s)) B (answered_with (part K.shards s 0 txs) (replies_in (replies_at rs s)))
+          → (own lane (J s).seen ≡ Lock (reply_stamp (replies_at rs s)) B (answered_with (part K s 0 txs) (replies_in (replies_at rs s)))
           ∷ own lane (I s).seen) ⊎ ((slot (I s).seen lane).number ≡ number)
 
     locks_shard : (rs : List ShardReplies) (log : Sight) (I M J : ℕ → Sight) (s : ℕ) → LockedShard K alone lane number txs rs I M s

@@ -44,15 +44,15 @@ pub not_true : (a : Bool) → (a ≡ true → ⊥) → a ≡ false
 not_true a h = grind arith
 
 -- a concerned shard's part has an entry
-pub has_part : (K : Shape) (txs : List Compact) (s : ℕ) → is_concerned K txs s ≡ true → is_no_part (part K.shards s 0 txs) ≡ false
-has_part K txs s c = tests (nat_lt s K.shards) (is_no_part (part K.shards s 0 txs)) c
+pub has_part : (K : Shape) (txs : List Compact) (s : ℕ) → is_concerned K txs s ≡ true → is_no_part (part K s 0 txs) ≡ false
+has_part K txs s c = tests (nat_lt s K.shards) (is_no_part (part K s 0 txs)) c
   where
     tests : (a b : Bool) → (a && not b) ≡ true → b ≡ false
     tests a b h = grind (arith, h)
 
 -- and another shard's has none
-no_entries : (K : Shape) (txs : List Compact) (s : ℕ) → s < K.shards → is_concerned K txs s ≡ false → part K.shards s 0 txs ≡ []
-no_entries K txs s lt c = go (part K.shards s 0 txs) (tests (nat_lt s K.shards) (is_no_part (part K.shards s 0 txs)) (below s K.shards lt) c)
+no_entries : (K : Shape) (txs : List Compact) (s : ℕ) → s < K.shards → is_concerned K txs s ≡ false → part K s 0 txs ≡ []
+no_entries K txs s lt c = go (part K s 0 txs) (tests (nat_lt s K.shards) (is_no_part (part K s 0 txs)) (below s K.shards lt) c)
   where
     below : (s n : ℕ) → s < n → nat_lt s n ≡ true
     below s n lt = grind (arith, lt)
@@ -99,46 +99,46 @@ module _ (K : Shape) (alone : Bool) (lane number : ℕ) (txs : List Compact) whe
 
   -- behind an Ok answer a shard has the record of its call
   pub lock_has : (s t : ℕ) (old new : Sight) (a : Replied) → is_concerned K txs s ≡ true
-      → LockAnswer alone (s, record { batch = B; part = part K.shards s 0 txs; cause = t }) old new (Ok a)
+      → LockAnswer alone (s, record { batch = B; part = part K s 0 txs; cause = t }) old new (Ok a)
       → is_some (record_of 2 new.seen B) ≡ true
   lock_has s t old new a c told = elim (told_ok alone lane true by old new a told) [
     | inl w ↦ (
-        let e = lock_kept old.header.shape old.capacity w.found call (next_lock w.found B (part K.shards s 0 txs) t) a w.answers in
-        let k = lock_stored w.found B (part K.shards s 0 txs) t e.0 e.1 in
-        some_entries (record_of 2 new.seen B) (part K.shards s 0 txs)
-        (ap (λ L. entries (lock_of L B)) w.seen ∙ no_difference same_entry entry_same (entries (lock_of w.found B)) (part K.shards s 0 txs) k.2)
+        let e = lock_kept old.header.shape old.capacity w.found call (next_lock w.found B (part K s 0 txs) t) a w.answers in
+        let k = lock_stored w.found B (part K s 0 txs) t e.0 e.1 in
+        some_entries (record_of 2 new.seen B) (part K s 0 txs)
+        (ap (λ L. entries (lock_of L B)) w.seen ∙ no_difference same_entry entry_same (entries (lock_of w.found B)) (part K s 0 txs) k.2)
         (has_part K txs s c))
     | inr w ↦ (
-        let e = lock_wrote old.header.shape old.capacity w.found call (next_lock w.found B (part K.shards s 0 txs) t) a w.what w.writes in
+        let e = lock_wrote old.header.shape old.capacity w.found call (next_lock w.found B (part K s 0 txs) t) a w.what w.writes in
         ap (λ L. is_some (record_of 2 L B)) (w.seen ∙ ap (λ q. q ∷ w.found) e.3) ∙ (let z : same_batch B B ≡ true = self in rw z))
   ]
     where
       call : LockCall
-      call = record { batch = B; part = part K.shards s 0 txs; cause = t }
+      call = record { batch = B; part = part K s 0 txs; cause = t }
 
       by : List Record → Due Replied
-      by L = lock_by (next_lock L B (part K.shards s 0 txs) t) old.header.shape old.capacity L call
+      by L = lock_by (next_lock L B (part K s 0 txs) t) old.header.shape old.capacity L call
 
   pub finish_has : (os : List Outcome) (s t : ℕ) (old new : Sight) (n : ℕ) → is_concerned K txs s ≡ true
-      → FinishAnswer alone (s, record { batch = B; decisions = decisions os (part K.shards s 0 txs); cause = t }) old new (Ok n)
+      → FinishAnswer alone (s, record { batch = B; decisions = decisions os (part K s 0 txs); cause = t }) old new (Ok n)
       → is_some (record_of 3 new.seen B) ≡ true
   finish_has os s t old new n c told = elim (told_ok alone lane false by old new n told) [
     | inl w ↦ (
-        let k = finish_stored w.found B (decisions os (part K.shards s 0 txs)) t n
-        (stamp_kept (next_finish w.found B (decisions os (part K.shards s 0 txs)) t)
-        (Finish (next_stamp w.found t) B (decisions os (part K.shards s 0 txs))) n w.answers) in
-        some_decisions (record_of 3 new.seen B) os (part K.shards s 0 txs)
+        let k = finish_stored w.found B (decisions os (part K s 0 txs)) t n
+        (stamp_kept (next_finish w.found B (decisions os (part K s 0 txs)) t) (Finish (next_stamp w.found t) B (decisions os (part K s 0 txs))) n
+        w.answers) in
+        some_decisions (record_of 3 new.seen B) os (part K s 0 txs)
         (ap (λ L. decisions_in (record_of 3 L B)) w.seen
-        ∙ no_difference same_decision decision_same (decisions_in (record_of 3 w.found B)) (decisions os (part K.shards s 0 txs)) k.same)
+        ∙ no_difference same_decision decision_same (decisions_in (record_of 3 w.found B)) (decisions os (part K s 0 txs)) k.same)
         (has_part K txs s c))
     | inr w ↦ (
-        let e = stamp_wrote (next_finish w.found B (decisions os (part K.shards s 0 txs)) t)
-        (Finish (next_stamp w.found t) B (decisions os (part K.shards s 0 txs))) n w.what w.writes in
+        let e = stamp_wrote (next_finish w.found B (decisions os (part K s 0 txs)) t)
+        (Finish (next_stamp w.found t) B (decisions os (part K s 0 txs))) n w.what w.writes in
         ap (λ L. is_some (record_of 3 L B)) (w.seen ∙ ap (λ q. q ∷ w.found) e.1) ∙ (let z : same_batch B B ≡ true = self in rw z))
   ]
     where
       by : List Record → Due ℕ
-      by L = stamp_by (next_finish L B (decisions os (part K.shards s 0 txs)) t) (Finish (next_stamp L t) B (decisions os (part K.shards s 0 txs)))
+      by L = stamp_by (next_finish L B (decisions os (part K s 0 txs)) t) (Finish (next_stamp L t) B (decisions os (part K s 0 txs)))
 
   -- Lock: what the shard has then
   pub record LockedShard (rs : List ShardReplies) (I J : ℕ → Sight) (s : ℕ) : Type 0 where
@@ -147,7 +147,7 @@ module _ (K : Shape) (alone : Bool) (lane number : ℕ) (txs : List Compact) whe
     pub slot_is : is_concerned K txs s ≡ true → ((slot (J s).seen lane).phase ≡ InLock) ⊎ (slot (J s).seen lane ≡ slot (I s).seen lane)
     pub others : is_concerned K txs s ≡ false → J s ≡ I s
     pub adds : is_concerned K txs s ≡ true
-        → (own lane (J s).seen ≡ Lock (reply_stamp (replies_at rs s)) B (answered_with (part K.shards s 0 txs) (replies_in (replies_at rs s)))
+        → (own lane (J s).seen ≡ Lock (reply_stamp (replies_at rs s)) B (answered_with (part K s 0 txs) (replies_in (replies_at rs s)))
         ∷ own lane (I s).seen) ⊎ ((slot (I s).seen lane).number ≡ number)
 
   pub locked_shard : (t : ℕ) (I J : ℕ → Sight) (rs : List ShardReplies) (cs : List (ℕ × LockCall)) (answers : List (Result Replied NodeFault))
@@ -159,58 +159,57 @@ module _ (K : Shape) (alone : Bool) (lane number : ℕ) (txs : List Compact) whe
       -- from what the journal has of Lock
       looks_by : (c : is_concerned K txs s ≡ true) (rep : ShardReplies) → replies_at rs s ≡ Some rep → (es : List Answered)
           → entries_in (record_of 2 (J s).seen B) ≡ es → stamp_in (record_of 2 (J s).seen B) ≡ rep.stamp
-          → entries es ≡ part K.shards s 0 txs → rep.replies ≡ replies es → LooksLock K lane number txs rs J s
+          → entries es ≡ part K s 0 txs → rep.replies ≡ replies es → LooksLock K lane number txs rs J s
       looks_by c rep r es is stamp parts reps = record {
         entries_are = is ∙ sym (answered_with-self es) ∙ (λ i. answered_with (parts i) (sym reps i))
-            ∙ ap (λ o. answered_with (part K.shards s 0 txs) (replies_in o)) (sym r);
+            ∙ ap (λ o. answered_with (part K s 0 txs) (replies_in o)) (sym r);
         stamp_is = stamp ∙ ap reply_stamp (sym r);
-        some = λ y. some_entries (record_of 2 (J s).seen B) (part K.shards s 0 txs) (ap entries is ∙ parts) (has_part K txs s c);
+        some = λ y. some_entries (record_of 2 (J s).seen B) (part K s 0 txs) (ap entries is ∙ parts) (has_part K txs s c);
         part_is = λ y. ap entries is ∙ parts;
         replied = λ lt. ap (λ o. length (replies_in o)) r ∙ ap length reps ∙ as_many es ∙ ap length parts;
       }
 
       made : (c : is_concerned K txs s ≡ true) (rep : ShardReplies) → replies_at rs s ≡ Some rep
-          → Wrote alone lane (λ L. lock_by (next_lock L B (part K.shards s 0 txs) t) (I s).header.shape (I s).capacity L
-          (record { batch = B; part = part K.shards s 0 txs; cause = t })) (I s) (J s) (gathered_reply rep) → LockedShard rs I J s
+          → Wrote alone lane (λ L. lock_by (next_lock L B (part K s 0 txs) t) (I s).header.shape (I s).capacity L
+          (record { batch = B; part = part K s 0 txs; cause = t })) (I s) (J s) (gathered_reply rep) → LockedShard rs I J s
       made c rep r w =
-          let e = lock_wrote (I s).header.shape (I s).capacity w.found (record { batch = B; part = part K.shards s 0 txs; cause = t })
-          (next_lock w.found B (part K.shards s 0 txs) t) (gathered_reply rep) w.what w.writes in
-          let n = lock_new w.found B (part K.shards s 0 txs) t e.0 e.1 in
+          let e = lock_wrote (I s).header.shape (I s).capacity w.found (record { batch = B; part = part K s 0 txs; cause = t })
+          (next_lock w.found B (part K s 0 txs) t) (gathered_reply rep) w.what w.writes in
+          let n = lock_new w.found B (part K s 0 txs) t e.0 e.1 in
           go w.found w.finds w.seen e.3 (ap (λ a. a.replies) e.2 ∙ ap (λ a. a.given) n.1) (ap (λ a. a.stamp) e.2 ∙ ap (λ a. a.at) n.1)
         where
           go : (found : List Record) → Finds alone lane (I s).seen found → (J s).seen ≡ w.what ∷ found
-              → w.what ≡ Lock (next_stamp found t) B (answered found B [] (part K.shards s 0 txs))
-              → rep.replies ≡ replies (answered found B [] (part K.shards s 0 txs)) → rep.stamp ≡ next_stamp found t → LockedShard rs I J s
+              → w.what ≡ Lock (next_stamp found t) B (answered found B [] (part K s 0 txs))
+              → rep.replies ≡ replies (answered found B [] (part K s 0 txs)) → rep.stamp ≡ next_stamp found t → LockedShard rs I J s
           go found f seen what reps stamp =
-              let at_end : (J s).seen ≡ Lock (next_stamp found t) B (answered found B [] (part K.shards s 0 txs)) ∷ found =
-              seen ∙ ap (λ q. q ∷ found) what in
-              let one : record_of 2 (J s).seen B ≡ Some (Lock (next_stamp found t) B (answered found B [] (part K.shards s 0 txs))) =
+              let at_end : (J s).seen ≡ Lock (next_stamp found t) B (answered found B [] (part K s 0 txs)) ∷ found = seen ∙ ap (λ q. q ∷ found) what
+              in
+              let one : record_of 2 (J s).seen B ≡ Some (Lock (next_stamp found t) B (answered found B [] (part K s 0 txs))) =
               ap (λ L. record_of 2 L B) at_end ∙ (let z : same_batch B B ≡ true = self in rw z) in
-              let parts : entries (answered found B [] (part K.shards s 0 txs)) ≡ part K.shards s 0 txs =
-              entries_answered found B (part K.shards s 0 txs) [] in
-              let es : answered found B [] (part K.shards s 0 txs) ≡ answered_with (part K.shards s 0 txs) (replies_in (replies_at rs s))
-              = sym (answered_with-self (answered found B [] (part K.shards s 0 txs))) ∙ (λ i. answered_with (parts i) (sym reps i))
-              ∙ ap (λ o. answered_with (part K.shards s 0 txs) (replies_in o)) (sym r) in
+              let parts : entries (answered found B [] (part K s 0 txs)) ≡ part K s 0 txs = entries_answered found B (part K s 0 txs) [] in
+              let es : answered found B [] (part K s 0 txs) ≡ answered_with (part K s 0 txs) (replies_in (replies_at rs s))
+              = sym (answered_with-self (answered found B [] (part K s 0 txs))) ∙ (λ i. answered_with (parts i) (sym reps i))
+              ∙ ap (λ o. answered_with (part K s 0 txs) (replies_in o)) (sym r) in
               let st : next_stamp found t ≡ reply_stamp (replies_at rs s) = sym stamp ∙ ap reply_stamp (sym r) in
               record {
-                looks = looks_by c rep r (answered found B [] (part K.shards s 0 txs)) (ap entries_in one) (ap stamp_in one ∙ sym stamp) parts reps;
+                looks = looks_by c rep r (answered found B [] (part K s 0 txs)) (ap entries_in one) (ap stamp_in one ∙ sym stamp) parts reps;
                 number_is = λ y. ap (λ L. (slot L lane).number) at_end ∙ (let z : (lane == lane) ≡ true = itself in rw z);
                 slot_is = λ y. inl (ap (λ L. (slot L lane).phase) at_end ∙ (let z : (lane == lane) ≡ true = itself in rw z));
                 others = λ n. no_way s c n;
                 adds = λ y. inl (ap (λ L. own lane L) at_end
-                    ∙ own_in lane (Lock (next_stamp found t) B (answered found B [] (part K.shards s 0 txs))) found itself
+                    ∙ own_in lane (Lock (next_stamp found t) B (answered found B [] (part K s 0 txs))) found itself
                     ∙ (λ i. Lock (st i) B (es i) ∷ finds_own alone lane (I s).seen found f i));
               }
 
       stood : (c : is_concerned K txs s ≡ true) (rep : ShardReplies) → replies_at rs s ≡ Some rep
-          → Stood alone lane (λ L. lock_by (next_lock L B (part K.shards s 0 txs) t) (I s).header.shape (I s).capacity L
-          (record { batch = B; part = part K.shards s 0 txs; cause = t })) (I s) (J s) (gathered_reply rep) → LockedShard rs I J s
+          → Stood alone lane (λ L. lock_by (next_lock L B (part K s 0 txs) t) (I s).header.shape (I s).capacity L
+          (record { batch = B; part = part K s 0 txs; cause = t })) (I s) (J s) (gathered_reply rep) → LockedShard rs I J s
       stood c rep r w =
-          let e = lock_kept (I s).header.shape (I s).capacity w.found (record { batch = B; part = part K.shards s 0 txs; cause = t })
-          (next_lock w.found B (part K.shards s 0 txs) t) (gathered_reply rep) w.answers in
-          let k = lock_stored w.found B (part K.shards s 0 txs) t e.0 e.1 in
-          let parts : entries (lock_of w.found B) ≡ part K.shards s 0 txs =
-          no_difference same_entry entry_same (entries (lock_of w.found B)) (part K.shards s 0 txs) k.2 in
+          let e = lock_kept (I s).header.shape (I s).capacity w.found (record { batch = B; part = part K s 0 txs; cause = t })
+          (next_lock w.found B (part K s 0 txs) t) (gathered_reply rep) w.answers in
+          let k = lock_stored w.found B (part K s 0 txs) t e.0 e.1 in
+          let parts : entries (lock_of w.found B) ≡ part K s 0 txs =
+          no_difference same_entry entry_same (entries (lock_of w.found B)) (part K s 0 txs) k.2 in
           let n : (slot w.found lane).number ≡ number = numbers_same number (slot w.found lane).number k.0 in
           record {
             looks = looks_by c rep r (lock_of w.found B) (ap (λ L. lock_of L B) w.seen)
@@ -223,11 +222,10 @@ module _ (K : Shape) (alone : Bool) (lane number : ℕ) (txs : List Compact) whe
           }
 
       both : (c : is_concerned K txs s ≡ true) (rep : ShardReplies) → replies_at rs s ≡ Some rep
-          → LockAnswer alone (s, record { batch = B; part = part K.shards s 0 txs; cause = t }) (I s) (J s) (Ok (gathered_reply rep))
-          → LockedShard rs I J s
+          → LockAnswer alone (s, record { batch = B; part = part K s 0 txs; cause = t }) (I s) (J s) (Ok (gathered_reply rep)) → LockedShard rs I J s
       both c rep r told = elim (told_ok alone lane true
-          (λ L. lock_by (next_lock L B (part K.shards s 0 txs) t) (I s).header.shape (I s).capacity L
-          (record { batch = B; part = part K.shards s 0 txs; cause = t })) (I s) (J s) (gathered_reply rep) told) [
+          (λ L. lock_by (next_lock L B (part K s 0 txs) t) (I s).header.shape (I s).capacity L
+          (record { batch = B; part = part K s 0 txs; cause = t })) (I s) (J s) (gathered_reply rep) told) [
             | inl w ↦ stood c rep r w
             | inr w ↦ made c rep r w
           ]
@@ -238,8 +236,8 @@ module _ (K : Shape) (alone : Bool) (lane number : ℕ) (txs : List Compact) whe
           ap (λ v. record_of 2 v.seen B) (others s n) ∙ none s (not_true (is_concerned K txs s) (λ c. calls.covers s c n)) in
           record {
             looks = record {
-              entries_are = ap entries_in no ∙ sym (answered_with-nil (part K.shards s 0 txs))
-                  ∙ ap (λ o. answered_with (part K.shards s 0 txs) (replies_in o)) (sym e);
+              entries_are = ap entries_in no ∙ sym (answered_with-nil (part K s 0 txs))
+                  ∙ ap (λ o. answered_with (part K s 0 txs) (replies_in o)) (sym e);
               stamp_is = ap stamp_in no ∙ ap reply_stamp (sym e);
               some = λ c. absurd (calls.covers s c n);
               part_is = λ c. absurd (calls.covers s c n);
@@ -253,7 +251,7 @@ module _ (K : Shape) (alone : Bool) (lane number : ℕ) (txs : List Compact) whe
           }
       go (one_lock c h e rep r told) = both (subst (λ n. is_concerned K txs n ≡ true) e h.0) rep r
           (subst (λ (d : ℕ × LockCall). LockAnswer alone d (I s) (J s) (Ok (gathered_reply rep)))
-          (λ i. (e i, (h.1 ∙ ap (λ (n : ℕ). let d : LockCall = record { batch = B; part = part K.shards n 0 txs; cause = t } in d) e) i)) told)
+          (λ i. (e i, (h.1 ∙ ap (λ (n : ℕ). let d : LockCall = record { batch = B; part = part K n 0 txs; cause = t } in d) e) i)) told)
 
   -- Finish and Forget: what the shard has of the kind, and its slot
   pub record StampedShard (kind : ℕ) (phase before : Phase) (stamps : ℕ → ℕ) (what : ℕ → Record) (I J : ℕ → Sight) (s : ℕ) : Type 0 where
@@ -281,24 +279,24 @@ module _ (K : Shape) (alone : Bool) (lane number : ℕ) (txs : List Compact) whe
   pub finished_shard : (os : List Outcome) (t : ℕ) (I J : ℕ → Sight) (cs : List (ℕ × FinishCall)) (answers : List (Result ℕ NodeFault))
       → ((s : ℕ) → is_concerned K txs s ≡ false → record_of 3 (I s).seen B ≡ None)
       → AreFinishes K txs os B t cs → EachTold (FinishAnswer alone) cs answers I J → Others cs I J → All IsOk answers → (s : ℕ)
-      → StampedShard 3 InFinish InFinish (stamp_at shard cs answers)
-      (λ s. Finish (stamp_at shard cs answers s) B (decisions os (part K.shards s 0 txs))) I J s
+      → StampedShard 3 InFinish InFinish (stamp_at shard cs answers) (λ s. Finish (stamp_at shard cs answers s) B (decisions os (part K s 0 txs))) I
+      J s
   finished_shard os t I J cs answers none calls each others ok s =
       go (stamped_at (FinishAnswer alone) (IsPartFinish K txs os B t) I J s cs answers each (every_fine answers ok) calls.every)
     where
       made : (c : is_concerned K txs s ≡ true) (n : ℕ) → stamp_at shard cs answers s ≡ n
-          → Wrote alone lane (λ L. stamp_by (next_finish L B (decisions os (part K.shards s 0 txs)) t)
-          (Finish (next_stamp L t) B (decisions os (part K.shards s 0 txs)))) (I s) (J s) n
+          → Wrote alone lane (λ L. stamp_by (next_finish L B (decisions os (part K s 0 txs)) t)
+          (Finish (next_stamp L t) B (decisions os (part K s 0 txs)))) (I s) (J s) n
           → StampedShard 3 InFinish InFinish (stamp_at shard cs answers)
-          (λ s. Finish (stamp_at shard cs answers s) B (decisions os (part K.shards s 0 txs))) I J s
+          (λ s. Finish (stamp_at shard cs answers s) B (decisions os (part K s 0 txs))) I J s
       made c n is w =
-          let e = stamp_wrote (next_finish w.found B (decisions os (part K.shards s 0 txs)) t)
-          (Finish (next_stamp w.found t) B (decisions os (part K.shards s 0 txs))) n w.what w.writes in
-          let st : next_stamp w.found t ≡ stamp_at shard cs answers s =
-          sym (finish_new w.found B (decisions os (part K.shards s 0 txs)) t n e.0).1 ∙ sym is in
-          let at_end : (J s).seen ≡ Finish (stamp_at shard cs answers s) B (decisions os (part K.shards s 0 txs)) ∷ w.found =
-          w.seen ∙ ap (λ q. q ∷ w.found) (e.1 ∙ ap (λ m. Finish m B (decisions os (part K.shards s 0 txs))) st) in
-          let one : record_of 3 (J s).seen B ≡ Some (Finish (stamp_at shard cs answers s) B (decisions os (part K.shards s 0 txs))) =
+          let e = stamp_wrote (next_finish w.found B (decisions os (part K s 0 txs)) t)
+          (Finish (next_stamp w.found t) B (decisions os (part K s 0 txs))) n w.what w.writes in
+          let st : next_stamp w.found t ≡ stamp_at shard cs answers s = sym (finish_new w.found B (decisions os (part K s 0 txs)) t n e.0).1 ∙ sym is
+          in
+          let at_end : (J s).seen ≡ Finish (stamp_at shard cs answers s) B (decisions os (part K s 0 txs)) ∷ w.found =
+          w.seen ∙ ap (λ q. q ∷ w.found) (e.1 ∙ ap (λ m. Finish m B (decisions os (part K s 0 txs))) st) in
+          let one : record_of 3 (J s).seen B ≡ Some (Finish (stamp_at shard cs answers s) B (decisions os (part K s 0 txs))) =
           ap (λ L. record_of 3 L B) at_end ∙ (let z : same_batch B B ≡ true = self in rw z) in
           record {
             some = λ y. ap is_some one;
@@ -309,24 +307,24 @@ module _ (K : Shape) (alone : Bool) (lane number : ℕ) (txs : List Compact) whe
             );
             others = λ n. no_way s c n;
             adds = λ y. inl (ap (λ L. own lane L) at_end
-                ∙ own_in lane (Finish (stamp_at shard cs answers s) B (decisions os (part K.shards s 0 txs))) w.found itself
-                ∙ ap (λ L. Finish (stamp_at shard cs answers s) B (decisions os (part K.shards s 0 txs)) ∷ L)
+                ∙ own_in lane (Finish (stamp_at shard cs answers s) B (decisions os (part K s 0 txs))) w.found itself
+                ∙ ap (λ L. Finish (stamp_at shard cs answers s) B (decisions os (part K s 0 txs)) ∷ L)
                 (finds_own alone lane (I s).seen w.found w.finds));
           }
 
       stood : (c : is_concerned K txs s ≡ true) (n : ℕ) → stamp_at shard cs answers s ≡ n
-          → Stood alone lane (λ L. stamp_by (next_finish L B (decisions os (part K.shards s 0 txs)) t)
-          (Finish (next_stamp L t) B (decisions os (part K.shards s 0 txs)))) (I s) (J s) n
+          → Stood alone lane (λ L. stamp_by (next_finish L B (decisions os (part K s 0 txs)) t)
+          (Finish (next_stamp L t) B (decisions os (part K s 0 txs)))) (I s) (J s) n
           → StampedShard 3 InFinish InFinish (stamp_at shard cs answers)
-          (λ s. Finish (stamp_at shard cs answers s) B (decisions os (part K.shards s 0 txs))) I J s
+          (λ s. Finish (stamp_at shard cs answers s) B (decisions os (part K s 0 txs))) I J s
       stood c n is w =
-          let k = finish_stored w.found B (decisions os (part K.shards s 0 txs)) t n
-          (stamp_kept (next_finish w.found B (decisions os (part K.shards s 0 txs)) t)
-          (Finish (next_stamp w.found t) B (decisions os (part K.shards s 0 txs))) n w.answers) in
-          let ds : decisions_in (record_of 3 (J s).seen B) ≡ decisions os (part K.shards s 0 txs) = ap (λ L. decisions_in (record_of 3 L B)) w.seen
-          ∙ no_difference same_decision decision_same (decisions_in (record_of 3 w.found B)) (decisions os (part K.shards s 0 txs)) k.same in
+          let k = finish_stored w.found B (decisions os (part K s 0 txs)) t n
+          (stamp_kept (next_finish w.found B (decisions os (part K s 0 txs)) t) (Finish (next_stamp w.found t) B (decisions os (part K s 0 txs)))
+          n w.answers) in
+          let ds : decisions_in (record_of 3 (J s).seen B) ≡ decisions os (part K s 0 txs) = ap (λ L. decisions_in (record_of 3 L B)) w.seen
+          ∙ no_difference same_decision decision_same (decisions_in (record_of 3 w.found B)) (decisions os (part K s 0 txs)) k.same in
           record {
-            some = λ y. some_decisions (record_of 3 (J s).seen B) os (part K.shards s 0 txs) ds (has_part K txs s c);
+            some = λ y. some_decisions (record_of 3 (J s).seen B) os (part K s 0 txs) ds (has_part K txs s c);
             stamp = ap (λ L. stamp_in (record_of 3 L B)) w.seen ∙ sym k.stamp ∙ sym is;
             slot_is = λ y. (ap (λ L. (slot L lane).number) w.seen ∙ k.number, ap (λ L. (slot L lane).phase) w.seen ∙ k.phase);
             others = λ n. no_way s c n;
@@ -334,27 +332,27 @@ module _ (K : Shape) (alone : Bool) (lane number : ℕ) (txs : List Compact) whe
           }
 
       both : (c : is_concerned K txs s ≡ true) (n : ℕ) → stamp_at shard cs answers s ≡ n
-          → FinishAnswer alone (s, record { batch = B; decisions = decisions os (part K.shards s 0 txs); cause = t }) (I s) (J s) (Ok n)
+          → FinishAnswer alone (s, record { batch = B; decisions = decisions os (part K s 0 txs); cause = t }) (I s) (J s) (Ok n)
           → StampedShard 3 InFinish InFinish (stamp_at shard cs answers)
-          (λ s. Finish (stamp_at shard cs answers s) B (decisions os (part K.shards s 0 txs))) I J s
+          (λ s. Finish (stamp_at shard cs answers s) B (decisions os (part K s 0 txs))) I J s
       both c n is told = elim (told_ok alone lane false
-          (λ L. stamp_by (next_finish L B (decisions os (part K.shards s 0 txs)) t)
-          (Finish (next_stamp L t) B (decisions os (part K.shards s 0 txs)))) (I s) (J s) n told) [
+          (λ L. stamp_by (next_finish L B (decisions os (part K s 0 txs)) t) (Finish (next_stamp L t) B (decisions os (part K s 0 txs)))) (I s) (J s)
+          n told) [
             | inl w ↦ stood c n is w
             | inr w ↦ made c n is w
           ]
 
       go : StampedAt (FinishAnswer alone) (IsPartFinish K txs os B t) cs answers I J s
           → StampedShard 3 InFinish InFinish (stamp_at shard cs answers)
-          (λ s. Finish (stamp_at shard cs answers s) B (decisions os (part K.shards s 0 txs))) I J s
+          (λ s. Finish (stamp_at shard cs answers s) B (decisions os (part K s 0 txs))) I J s
       go (no_stamp n e) = uncalled 3 InFinish InFinish (stamp_at shard cs answers)
-          (λ s. Finish (stamp_at shard cs answers s) B (decisions os (part K.shards s 0 txs))) I J s (λ c. calls.covers s c n) e (others s n)
+          (λ s. Finish (stamp_at shard cs answers s) B (decisions os (part K s 0 txs))) I J s (λ c. calls.covers s c n) e (others s n)
           (none s (not_true (is_concerned K txs s) (λ c. calls.covers s c n)))
       go (one_stamp c h e n is told) = both (subst (λ m. is_concerned K txs m ≡ true) e h.0) n is
           (subst (λ (d : ℕ × FinishCall). FinishAnswer alone d (I s) (J s) (Ok n))
           (λ i. (
             e i,
-            (h.1 ∙ ap (λ (n : ℕ). let d : FinishCall = record { batch = B; decisions = decisions os (part K.shards n 0 txs); cause = t } in d) e) i,
+            (h.1 ∙ ap (λ (n : ℕ). let d : FinishCall = record { batch = B; decisions = decisions os (part K n 0 txs); cause = t } in d) e) i,
           )) told)
 
   -- where a lane is idle with the batch's number, its last record there is the batch's Forget

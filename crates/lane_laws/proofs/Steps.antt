@@ -1,6 +1,6 @@
 -- A phase of calls makes records that are caused by what the lane saw before it, and so is what it leaves in flight.
 use Rattle.std.proofs.Common.{◌≡◌, ◌⊎◌, inl, inr, ℕ, Bool, true, false, List, [], ◌∷◌, ◌++◌, Option, Some, sym, ap, ◌∙◌, subst}
-use Rattle.cbdc_model.specs.Records.{Compact, Record, Shape, is_in_lane}
+use Rattle.cbdc_model.specs.Records.{Compact, Record, Shape, tells_lane}
 use Rattle.cbdc_model.specs.Causes.{IsCaused}
 use Rattle.cbdc_model.specs.World.{replaced}
 use Rattle.cbdc_model.specs.Lanes.{IsEnd, Seen, Holds, may_come, Made}
@@ -16,9 +16,9 @@ pub data StepAt (K : Shape) (pieces : List (List Compact)) (alone : Bool) (lane 
   comes_there : (found : List Record) → Finds alone lane (I n) found → new ≡ found → after ≡ before
       → StepAt K pieces alone lane fails I n before after new
   fails_there : fails ≡ true → (found : List Record) (r : Record) → Finds alone lane (I n) found → new ≡ found → after ≡ Some r
-      → is_in_lane lane r ≡ true → Holds pieces r
+      → tells_lane lane r ≡ true → Holds pieces r
       → IsCaused K (replaced I n found) n r → StepAt K pieces alone lane fails I n before after new
-  makes_there : (found : List Record) (r : Record) → Finds alone lane (I n) found → new ≡ r ∷ found → after ≡ before → is_in_lane lane r ≡ true
+  makes_there : (found : List Record) (r : Record) → Finds alone lane (I n) found → new ≡ r ∷ found → after ≡ before → tells_lane lane r ≡ true
       → Holds pieces r
       → IsCaused K (replaced I n found) n r → StepAt K pieces alone lane fails I n before after new
 
@@ -40,7 +40,7 @@ module _ (K : Shape) (pieces : List (List Compact)) (alone : Bool) (lane : ℕ) 
   Step n new = StepAt K pieces alone lane fails I n (before n) (after n) new
 
   abbrev Owed : ℕ → List Record → Record → Type 0
-  Owed n rest r = (may_come alone lane r ≡ true) ⊎ ((is_in_lane lane r ≡ true) × Seen K J n rest r × Holds pieces r)
+  Owed n rest r = (may_come alone lane r ≡ true) ⊎ ((tells_lane lane r ≡ true) × Seen K J n rest r × Holds pieces r)
 
   grows_at : (n : ℕ) (new : List Record) → Step n new → IsEnd (I n) new
   grows_at n new (stays_there e q) = ([], e)
@@ -72,7 +72,7 @@ module _ (K : Shape) (pieces : List (List Compact)) (alone : Bool) (lane : ℕ) 
           let t : (q ≡ r) × (f.more ≡ back) = cons_same q r f.more back m in
           let same : found ≡ rest = f.is ∙ ap (λ L. L ++ I n) t.1 ∙ sym b in
           inr (
-            subst (λ p. is_in_lane lane p ≡ true) t.0 i,
+            subst (λ p. tells_lane lane p ≡ true) t.0 i,
             record {
               lists = I;
               ends = ends;

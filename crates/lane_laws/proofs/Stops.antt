@@ -200,15 +200,14 @@ module _ (K : Shape) (pieces : List (List Compact)) (alone : Bool) (lane number 
 
     -- behind the Locks and a later Commit by their replies each concerned shard may finish it
     finishing : (log : Sight) (I J : ℕ → Sight) (t tc : ℕ) (rs : List ShardReplies) (os : List Outcome)
-        → LocksRun K pieces alone lane number home txs rs log I J
-        → ((s : ℕ) → is_concerned K txs s ≡ true → MayLock (I s).seen B (part K.shards s 0 txs) t)
+        → LocksRun K pieces alone lane number home txs rs log I J → ((s : ℕ) → is_concerned K txs s ≡ true → MayLock (I s).seen B (part K s 0 txs) t)
         → os ≡ decided K txs rs → reply_cause K rs < tc → (s : ℕ) → is_concerned K txs s ≡ true
-        → MayFinish (J s).seen B (decisions os (part K.shards s 0 txs)) tc
+        → MayFinish (J s).seen B (decisions os (part K s 0 txs)) tc
     finishing log I J t tc rs os r may os_is above s c = (
       (r.shards s).number_is c,
       inl (
         in_lock,
-        subst (λ q. FitsReplies (lock_in (J s).seen B) (decisions q (part K.shards s 0 txs))) (sym os_is)
+        subst (λ q. FitsReplies (lock_in (J s).seen B) (decisions q (part K s 0 txs))) (sym os_is)
             (decided_fits K txs rs s (in_range K txs s c) (lock_in (J s).seen B) (r.shards s).looks.entries_are ((r.shards s).looks.part_is c)),
         older (locked_stamp (J s).seen B ((r.shards s).number_is c) in_lock ∙ (r.shards s).looks.stamp_is)
             (greatest_bound (λ k. reply_stamp (replies_at rs k)) K.shards s (in_range K txs s c)) above,
@@ -218,7 +217,7 @@ module _ (K : Shape) (pieces : List (List Compact)) (alone : Bool) (lane number 
         older : {a b g t : ℕ} → a ≡ b → b ≤ g → g < t → a < t
         older e le lt = omega arith
 
-        before : slot (J s).seen lane ≡ slot (I s).seen lane → MayLock (I s).seen B (part K.shards s 0 txs) t → (slot (J s).seen lane).phase ≡ InLock
+        before : slot (J s).seen lane ≡ slot (I s).seen lane → MayLock (I s).seen B (part K s 0 txs) t → (slot (J s).seen lane).phase ≡ InLock
         before e (inl m) = absurd (behind (slot (J s).seen lane).number (slot (I s).seen lane).number (ap (λ q. q.number) e)
             ((r.shards s).number_is c)
             m.0)
@@ -233,8 +232,8 @@ module _ (K : Shape) (pieces : List (List Compact)) (alone : Bool) (lane number 
     pub committed_stopped : (log log' : Sight) (I J : ℕ → Sight) (t u tc : ℕ) (os : List Outcome) (repeats : ℕ) (locks : List (ℕ × LockCall))
         (node : ℕ) (f : NodeFault) → Open K lane number txs log t
         → record_of 7 log.seen B ≡ Some (Commit tc B os) → (slot log.seen lane).phase ≡ InCommit
-        → ((s : ℕ) → is_concerned K txs s ≡ true → entries (lock_in (I s).seen B) ≡ part K.shards s 0 txs)
-        → ((s : ℕ) → is_concerned K txs s ≡ true → MayFinish (I s).seen B (decisions os (part K.shards s 0 txs)) tc)
+        → ((s : ℕ) → is_concerned K txs s ≡ true → entries (lock_in (I s).seen B) ≡ part K s 0 txs)
+        → ((s : ℕ) → is_concerned K txs s ≡ true → MayFinish (I s).seen B (decisions os (part K s 0 txs)) tc)
         → ((s kind : ℕ) → (kind ≡ 3) ⊎ (kind ≡ 4) → is_concerned K txs s ≡ false → record_of kind (I s).seen B ≡ None) → AreLocks K txs B u locks
         → CommittedStopped K alone B tc os repeats locks log log' I J node f → RunStopped log log' I J node f
     committed_stopped log log' I J t u tc os repeats locks node f o commit phase_is part_is may none are (at_finish s stop same node_is) =
@@ -244,24 +243,24 @@ module _ (K : Shape) (pieces : List (List Compact)) (alone : Bool) (lane number 
               part_is (are_finishes K txs B os u tc locks are)
               stop.asked.each stop.asked.others (anyway stop.asked.answers));
           told = inr (s, node_is, failed.risen);
-          roomless = kept_room (next_finish failed.found B (decisions os (part K.shards s 0 txs)) tc)
-              (Finish (next_stamp failed.found tc) B (decisions os (part K.shards s 0 txs))) f failed.why;
+          roomless = kept_room (next_finish failed.found B (decisions os (part K s 0 txs)) tc)
+              (Finish (next_stamp failed.found tc) B (decisions os (part K s 0 txs))) f failed.why;
           fault = record {
             stamp = t;
             prepare = o.prepare;
             number = o.open_number;
             busy = o.busy;
             call = to_finish s tc os node_is concerned phase_is commit had
-                (answered alone lane false (λ L. stamp_by (next_finish L B (decisions os (part K.shards s 0 txs)) tc)
-                (Finish (next_stamp L tc) B (decisions os (part K.shards s 0 txs)))) (I s) (J s) f failed);
+                (answered alone lane false (λ L. stamp_by (next_finish L B (decisions os (part K s 0 txs)) tc)
+                (Finish (next_stamp L tc) B (decisions os (part K s 0 txs)))) (I s) (J s) f failed);
           };
-          granted = unrefused false (stamp_by (next_finish failed.found B (decisions os (part K.shards s 0 txs)) tc)
-              (Finish (next_stamp failed.found tc) B (decisions os (part K.shards s 0 txs)))) f
-              (λ why e. finish_grants failed.found B (decisions os (part K.shards s 0 txs)) tc
+          granted = unrefused false (stamp_by (next_finish failed.found B (decisions os (part K s 0 txs)) tc)
+              (Finish (next_stamp failed.found tc) B (decisions os (part K s 0 txs)))) f
+              (λ why e. finish_grants failed.found B (decisions os (part K s 0 txs)) tc
               (finish_on lane number (I s).seen failed.found (finds_own alone lane (I s).seen failed.found failed.finds)
-              (decisions os (part K.shards s 0 txs)) tc (may s concerned)) why
-              (stamp_refuses (next_finish failed.found B (decisions os (part K.shards s 0 txs)) tc)
-              (Finish (next_stamp failed.found tc) B (decisions os (part K.shards s 0 txs))) why e)) failed.why;
+              (decisions os (part K s 0 txs)) tc (may s concerned)) why
+              (stamp_refuses (next_finish failed.found B (decisions os (part K s 0 txs)) tc)
+              (Finish (next_stamp failed.found tc) B (decisions os (part K s 0 txs))) why e)) failed.why;
           prepares = refl;
         })
       where
@@ -272,8 +271,7 @@ module _ (K : Shape) (pieces : List (List Compact)) (alone : Bool) (lane number 
             stop.first lt (λ n. (are_finishes K txs B os u tc locks are).covers k c n) in
             finish_has K alone lane number txs os k tc (I k) (J k) e.3 c
             (subst (λ (d : FinishCall). FinishAnswer alone (k, d) (I k) (J k) (Ok e.3))
-            (e.1.1 ∙ ap (λ (n : ℕ). let d : FinishCall = record { batch = B; decisions = decisions os (part K.shards n 0 txs); cause = tc } in d)
-            e.2) e.4)
+            (e.1.1 ∙ ap (λ (n : ℕ). let d : FinishCall = record { batch = B; decisions = decisions os (part K n 0 txs); cause = tc } in d) e.2) e.4)
 
         asked : (c : ℕ × FinishCall) × IsPartFinish K txs os B tc c × (c.0 ≡ s) × FinishAnswer alone c (I s) (J s) (Err f)
         asked = first_at (FinishAnswer alone) (IsPartFinish K txs os B tc) I J s f (map (finish_call_of B tc os) locks) stop.asked.answers
@@ -282,16 +280,16 @@ module _ (K : Shape) (pieces : List (List Compact)) (alone : Bool) (lane number 
         concerned : is_concerned K txs s ≡ true
         concerned = subst (λ m. is_concerned K txs m ≡ true) asked.2 asked.1.0
 
-        failed : Stopped alone lane false (λ L. stamp_by (next_finish L B (decisions os (part K.shards s 0 txs)) tc)
-            (Finish (next_stamp L tc) B (decisions os (part K.shards s 0 txs)))) (I s) (J s) f
+        failed : Stopped alone lane false (λ L. stamp_by (next_finish L B (decisions os (part K s 0 txs)) tc)
+            (Finish (next_stamp L tc) B (decisions os (part K s 0 txs)))) (I s) (J s) f
         failed =
-            told_err alone lane false (λ L. stamp_by (next_finish L B (decisions os (part K.shards s 0 txs)) tc)
-            (Finish (next_stamp L tc) B (decisions os (part K.shards s 0 txs)))) (I s) (J s) f
-            (λ L n e. stamp_unbroken (next_finish L B (decisions os (part K.shards s 0 txs)) tc)
-            (Finish (next_stamp L tc) B (decisions os (part K.shards s 0 txs))) n e)
+            told_err alone lane false (λ L. stamp_by (next_finish L B (decisions os (part K s 0 txs)) tc)
+            (Finish (next_stamp L tc) B (decisions os (part K s 0 txs)))) (I s) (J s) f
+            (λ L n e. stamp_unbroken (next_finish L B (decisions os (part K s 0 txs)) tc) (Finish (next_stamp L tc) B (decisions os (part K s 0 txs)))
+            n e)
             (subst (λ (d : FinishCall). FinishAnswer alone (s, d) (I s) (J s) (Err f))
-            (asked.1.1 ∙ ap (λ (n : ℕ). let d : FinishCall = record { batch = B; decisions = decisions os (part K.shards n 0 txs); cause = tc } in
-            d) asked.2) asked.3)
+            (asked.1.1 ∙ ap (λ (n : ℕ). let d : FinishCall = record { batch = B; decisions = decisions os (part K n 0 txs); cause = tc } in d)
+            asked.2) asked.3)
     committed_stopped log log' I J t u tc os repeats locks node f o commit phase_is part_is may none are
         (at_discard finished after phase again told node_is) =
         let r = finishes_run K pieces alone lane number home txs log I after J u tc finished os repeats locks commit part_is
@@ -342,7 +340,7 @@ module _ (K : Shape) (pieces : List (List Compact)) (alone : Bool) (lane number 
     pub prepared_stopped : (log log' : Sight) (I J : ℕ → Sight) (t repeats : ℕ) (parts : List (ℕ × List Entry)) (node : ℕ) (f : NodeFault)
         → Open K lane number txs log t → (slot log.seen lane).phase ≡ InPrepare
         → ((s kind : ℕ) → (kind ≡ 2) ⊎ (kind ≡ 3) ⊎ (kind ≡ 4) → is_concerned K txs s ≡ false → record_of kind (I s).seen B ≡ None)
-        → ((s : ℕ) → is_concerned K txs s ≡ true → MayLock (I s).seen B (part K.shards s 0 txs) t) → AreParts K txs parts
+        → ((s : ℕ) → is_concerned K txs s ≡ true → MayLock (I s).seen B (part K s 0 txs) t) → AreParts K txs parts
         → PreparedStopped K alone B t repeats parts log log' I J node f → PreparedFell log log' I J node f
     prepared_stopped log log' I J t repeats parts node f o phase_is none may are (at_lock s stop same node_is) =
         subst (λ l. PreparedFell log l I J node f) (sym same) (record {
@@ -359,16 +357,14 @@ module _ (K : Shape) (pieces : List (List Compact)) (alone : Bool) (lane number 
             call = to_lock s t node_is concerned phase_is o.prepare had
                 (subst (λ h. IsAnswered true (lock_due h.shape (J s).capacity own_call None (J s).seen) (J s) f) (sym failed.node.header)
                 (subst (λ m. IsAnswered true (lock_due (I s).header.shape m own_call None (J s).seen) (J s) f) (sym failed.node.capacity)
-                (answered alone lane true (λ L. lock_by (next_lock L B (part K.shards s 0 txs) t) (I s).header.shape (I s).capacity L own_call) (I s)
-                (J s) f failed)));
+                (answered alone lane true (λ L. lock_by (next_lock L B (part K s 0 txs) t) (I s).header.shape (I s).capacity L own_call) (I s) (J s) f
+                failed)));
           };
-          granted = unrefused true (lock_by (next_lock failed.found B (part K.shards s 0 txs) t) (I s).header.shape (I s).capacity failed.found
-              own_call) f
-              (λ why e. lock_grants failed.found B (part K.shards s 0 txs) t
-              (lock_on lane number (I s).seen failed.found (finds_own alone lane (I s).seen failed.found failed.finds) (part K.shards s 0 txs) t
+          granted = unrefused true (lock_by (next_lock failed.found B (part K s 0 txs) t) (I s).header.shape (I s).capacity failed.found own_call) f
+              (λ why e. lock_grants failed.found B (part K s 0 txs) t
+              (lock_on lane number (I s).seen failed.found (finds_own alone lane (I s).seen failed.found failed.finds) (part K s 0 txs) t
               (may s concerned)) why
-              (lock_refuses (I s).header.shape (I s).capacity failed.found own_call (next_lock failed.found B (part K.shards s 0 txs) t) why e))
-              failed.why;
+              (lock_refuses (I s).header.shape (I s).capacity failed.found own_call (next_lock failed.found B (part K s 0 txs) t) why e)) failed.why;
           room = λ r. (s, concerned, ap (λ L. own lane L) failed.seen ∙ finds_own alone lane (I s).seen failed.found failed.finds);
           prepares = refl;
         })
@@ -380,26 +376,26 @@ module _ (K : Shape) (pieces : List (List Compact)) (alone : Bool) (lane number 
             (λ n. (are_locks K txs B t parts are).covers k c n) in
             lock_has K alone lane number txs k t (I k) (J k) e.3 c
             (subst (λ (d : LockCall). LockAnswer alone (k, d) (I k) (J k) (Ok e.3))
-            (e.1.1 ∙ ap (λ (n : ℕ). let d : LockCall = record { batch = B; part = part K.shards n 0 txs; cause = t } in d) e.2) e.4)
+            (e.1.1 ∙ ap (λ (n : ℕ). let d : LockCall = record { batch = B; part = part K n 0 txs; cause = t } in d) e.2) e.4)
 
         call : (c : ℕ × LockCall) × IsPartLock K txs B t c × (c.0 ≡ s) × LockAnswer alone c (I s) (J s) (Err f)
         call = first_at (LockAnswer alone) (IsPartLock K txs B t) I J s f (map (lock_call_of B t) parts) stop.asked.answers stop.asked.each
             (are_locks K txs B t parts are).every stop.first
 
         own_call : LockCall
-        own_call = record { batch = B; part = part K.shards s 0 txs; cause = t }
+        own_call = record { batch = B; part = part K s 0 txs; cause = t }
 
         concerned : is_concerned K txs s ≡ true
         concerned = subst (λ m. is_concerned K txs m ≡ true) call.2 call.1.0
 
-        failed : Stopped alone lane true (λ L. lock_by (next_lock L B (part K.shards s 0 txs) t) (I s).header.shape (I s).capacity L
-            (record { batch = B; part = part K.shards s 0 txs; cause = t })) (I s) (J s) f
-        failed = told_err alone lane true (λ L. lock_by (next_lock L B (part K.shards s 0 txs) t) (I s).header.shape (I s).capacity L
-            (record { batch = B; part = part K.shards s 0 txs; cause = t })) (I s) (J s) f
-            (λ L m e. lock_unbroken (I s).header.shape (I s).capacity L (record { batch = B; part = part K.shards s 0 txs; cause = t })
-            (next_lock L B (part K.shards s 0 txs) t) m e)
+        failed : Stopped alone lane true (λ L. lock_by (next_lock L B (part K s 0 txs) t) (I s).header.shape (I s).capacity L
+            (record { batch = B; part = part K s 0 txs; cause = t })) (I s) (J s) f
+        failed = told_err alone lane true (λ L. lock_by (next_lock L B (part K s 0 txs) t) (I s).header.shape (I s).capacity L
+            (record { batch = B; part = part K s 0 txs; cause = t })) (I s) (J s) f
+            (λ L m e. lock_unbroken (I s).header.shape (I s).capacity L (record { batch = B; part = part K s 0 txs; cause = t })
+            (next_lock L B (part K s 0 txs) t) m e)
             (subst (λ (d : LockCall). LockAnswer alone (s, d) (I s) (J s) (Err f))
-            (call.1.1 ∙ ap (λ (n : ℕ). let d : LockCall = record { batch = B; part = part K.shards n 0 txs; cause = t } in d) call.2) call.3)
+            (call.1.1 ∙ ap (λ (n : ℕ). let d : LockCall = record { batch = B; part = part K n 0 txs; cause = t } in d) call.2) call.3)
     prepared_stopped log log' I J t repeats parts node f o phase_is none may are (at_decide rs after l again told node_is) =
         let r = locks_run K pieces alone lane number home txs log I after J t repeats parts rs o (λ s c. none s 2 (inl refl) c) are l again in
         prepared_on log log log' I J J node f r.moved refl

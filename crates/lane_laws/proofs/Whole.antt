@@ -1,7 +1,7 @@
 -- A whole new batch of a settled lane: exactly its records, and the lane is settled again.
 use Rattle.std.proofs.Common.{◌≡◌, ◌⊎◌, inl, inr, ℕ, suc, ◌<◌, Bool, true, false, ◌&&◌, ◌==◌, if◌then◌else◌, List, [], ◌∷◌, ◌++◌, Some, None, refl}
 use Rattle.std.proofs.Common.{sym, ap, ◌∙◌, subst, arith}
-use Rattle.cbdc_model.specs.Records.{Batch, same_batch, Compact, Entry, Outcome, Record, Shape, is_in_lane, kind_of, is_of, record_of, last_stamp}
+use Rattle.cbdc_model.specs.Records.{Batch, same_batch, Compact, Entry, Outcome, Record, Shape, tells_lane, kind_of, is_of, record_of, last_stamp}
 use Rattle.cbdc_model.specs.Records.{stamp_in, Lock, Finish, Forget, Prepare, Commit, Discard, Done}
 use Rattle.cbdc_model.specs.Slots.{slot, slot_stamp, Idle, InLock, InPrepare}
 use Rattle.cbdc_model.specs.Outcomes.{decisions}
@@ -23,10 +23,10 @@ use Rattle.lane_laws.proofs.Runs.{PreparedRun, prepared_run, same_record}
 slot_front : (lane : ℕ) (L X : List Record) (r : Record) → own lane L ≡ r ∷ X → slot L lane ≡ slot (r ∷ X) lane
 slot_front lane L X r e = slot_own lane L ∙ ap (λ K. slot K lane) e
 
-stamp_front : (lane : ℕ) (L X : List Record) (r : Record) → own lane L ≡ r ∷ X → is_in_lane lane r ≡ true → slot_stamp L lane ≡ stamp_in (Some r)
+stamp_front : (lane : ℕ) (L X : List Record) (r : Record) → own lane L ≡ r ∷ X → tells_lane lane r ≡ true → slot_stamp L lane ≡ stamp_in (Some r)
 stamp_front lane L X r e i = stamp_own lane L ∙ ap (λ K. slot_stamp K lane) e ∙ first lane r X i
   where
-    first : (lane : ℕ) (r : Record) (J : List Record) → is_in_lane lane r ≡ true → slot_stamp (r ∷ J) lane ≡ stamp_in (Some r)
+    first : (lane : ℕ) (r : Record) (J : List Record) → tells_lane lane r ≡ true → slot_stamp (r ∷ J) lane ≡ stamp_in (Some r)
     first lane r J h = rw h
 
 not_here : (kind : ℕ) (b : Batch) (r : Record) (J : List Record) → is_of b r ≡ false → record_of kind (r ∷ J) b ≡ record_of kind J b
@@ -80,9 +80,9 @@ module _ (K : Shape) (alone : Bool) (lane k : ℕ) (txs : List Compact) (log log
     discarded = r.rest.discarded;
     done = r.rest.ended;
     locked = λ s. reply_stamp (replies_at r.replies s);
-    entries = λ s. answered_with (part K.shards s 0 txs) (replies_in (replies_at r.replies s));
+    entries = λ s. answered_with (part K s 0 txs) (replies_in (replies_at r.replies s));
     finished = r.rest.fins;
-    decisions = λ s. decisions os (part K.shards s 0 txs);
+    decisions = λ s. decisions os (part K s 0 txs);
     forgotten = r.rest.ends;
   }
 
@@ -92,23 +92,21 @@ module _ (K : Shape) (alone : Bool) (lane k : ℕ) (txs : List Compact) (log log
 
   lock_added : (s : ℕ) → is_concerned K txs s ≡ true
       → own lane (r.before_finish s).seen ≡ Lock (reply_stamp (replies_at r.replies s)) B
-      (answered_with (part K.shards s 0 txs) (replies_in (replies_at r.replies s))) ∷ own lane (I s).seen
+      (answered_with (part K s 0 txs) (replies_in (replies_at r.replies s))) ∷ own lane (I s).seen
   lock_added s c = elim ((r.locked s).adds c) [
     | inl e ↦ e
     | inr n ↦ absurd (omega (arith, n, st.shard_number s))
   ]
 
   own_shard : (s : ℕ) → is_concerned K txs s ≡ true
-      → own lane (J s).seen ≡ Forget (r.rest.ends s) B ∷ Finish (r.rest.fins s) B (decisions os (part K.shards s 0 txs))
-      ∷ Lock (reply_stamp (replies_at r.replies s)) B (answered_with (part K.shards s 0 txs) (replies_in (replies_at r.replies s)))
-      ∷ own lane (I s).seen
+      → own lane (J s).seen ≡ Forget (r.rest.ends s) B ∷ Finish (r.rest.fins s) B (decisions os (part K s 0 txs))
+      ∷ Lock (reply_stamp (replies_at r.replies s)) B (answered_with (part K s 0 txs) (replies_in (replies_at r.replies s))) ∷ own lane (I s).seen
   own_shard s c = (r.rest.shards s).adds c in_lock
-      ∙ ap (λ L. Forget (r.rest.ends s) B ∷ Finish (r.rest.fins s) B (decisions os (part K.shards s 0 txs)) ∷ L) (lock_added s c)
+      ∙ ap (λ L. Forget (r.rest.ends s) B ∷ Finish (r.rest.fins s) B (decisions os (part K s 0 txs)) ∷ L) (lock_added s c)
     where
       in_lock : (slot (r.before_finish s).seen lane).phase ≡ InLock
       in_lock = ap (λ q. q.phase) (slot_front lane (r.before_finish s).seen (own lane (I s).seen)
-          (Lock (reply_stamp (replies_at r.replies s)) B (answered_with (part K.shards s 0 txs) (replies_in (replies_at r.replies s))))
-          (lock_added s c))
+          (Lock (reply_stamp (replies_at r.replies s)) B (answered_with (part K s 0 txs) (replies_in (replies_at r.replies s)))) (lock_added s c))
           ∙ (let z : (lane == lane) ≡ true = itself in rw z)
 
   own_other : (s : ℕ) → is_concerned K txs s ≡ false → own lane (J s).seen ≡ own lane (I s).seen
@@ -116,8 +114,8 @@ module _ (K : Shape) (alone : Bool) (lane k : ℕ) (txs : List Compact) (log log
 
   shard_grew : (s : ℕ) → own lane (J s).seen ≡ at_shard K recorded txs s ++ own lane (I s).seen
   shard_grew s = elim (is_concerned K txs s) as (λ c. is_concerned K txs s ≡ c
-      → own lane (J s).seen ≡ (if c then Forget (r.rest.ends s) B ∷ Finish (r.rest.fins s) B (decisions os (part K.shards s 0 txs))
-      ∷ Lock (reply_stamp (replies_at r.replies s)) B (answered_with (part K.shards s 0 txs) (replies_in (replies_at r.replies s))) ∷ []
+      → own lane (J s).seen ≡ (if c then Forget (r.rest.ends s) B ∷ Finish (r.rest.fins s) B (decisions os (part K s 0 txs))
+      ∷ Lock (reply_stamp (replies_at r.replies s)) B (answered_with (part K s 0 txs) (replies_in (replies_at r.replies s))) ∷ []
       else []) ++ own lane (I s).seen) [
         | true ↦ λ c. own_shard s c
         | false ↦ λ c. own_other s c
@@ -136,8 +134,8 @@ module _ (K : Shape) (alone : Bool) (lane k : ℕ) (txs : List Compact) (log log
       omega (arith, a, b, c, d, e)
 
   abbrev shard_news : ℕ → List Record
-  shard_news s = Forget (r.rest.ends s) B ∷ Finish (r.rest.fins s) B (decisions os (part K.shards s 0 txs))
-      ∷ Lock (reply_stamp (replies_at r.replies s)) B (answered_with (part K.shards s 0 txs) (replies_in (replies_at r.replies s))) ∷ []
+  shard_news s = Forget (r.rest.ends s) B ∷ Finish (r.rest.fins s) B (decisions os (part K s 0 txs))
+      ∷ Lock (reply_stamp (replies_at r.replies s)) B (answered_with (part K s 0 txs) (replies_in (replies_at r.replies s))) ∷ []
 
   settled_after : Settled K lane (suc k) log' J
   settled_after = record {
@@ -157,8 +155,8 @@ module _ (K : Shape) (alone : Bool) (lane k : ℕ) (txs : List Compact) (log log
     shard_stamp = λ s. elim (which (is_concerned K txs s)) [
       | inl c ↦ (
           let f : slot_stamp (J s).seen lane ≡ r.rest.ends s
-          = stamp_front lane (J s).seen (Finish (r.rest.fins s) B (decisions os (part K.shards s 0 txs))
-          ∷ Lock (reply_stamp (replies_at r.replies s)) B (answered_with (part K.shards s 0 txs) (replies_in (replies_at r.replies s)))
+          = stamp_front lane (J s).seen (Finish (r.rest.fins s) B (decisions os (part K s 0 txs))
+          ∷ Lock (reply_stamp (replies_at r.replies s)) B (answered_with (part K s 0 txs) (replies_in (replies_at r.replies s)))
           ∷ own lane (I s).seen)
           (Forget (r.rest.ends s) B) (own_shard s c) itself in
           let a = r.rest.above s (in_range K txs s c) in let e = r.rest.newest in omega (arith, f, a, e))
@@ -181,13 +179,12 @@ module _ (K : Shape) (alone : Bool) (lane k : ℕ) (txs : List Compact) (log log
           | inr c ↦ same_record kind lane b (I s).seen (J s).seen h (own_other s c) ∙ old
           | inl c ↦ look kind lane b (J s).seen (I s).seen (shard_news s) (own_shard s c) h old
               ∙ not_here kind b (Forget (r.rest.ends s) B)
-              (Finish (r.rest.fins s) B (decisions os (part K.shards s 0 txs))
-              ∷ Lock (reply_stamp (replies_at r.replies s)) B (answered_with (part K.shards s 0 txs) (replies_in (replies_at r.replies s))) ∷ [])
-              z
-              ∙ not_here kind b (Finish (r.rest.fins s) B (decisions os (part K.shards s 0 txs)))
-              (Lock (reply_stamp (replies_at r.replies s)) B (answered_with (part K.shards s 0 txs) (replies_in (replies_at r.replies s))) ∷ []) z
+              (Finish (r.rest.fins s) B (decisions os (part K s 0 txs))
+              ∷ Lock (reply_stamp (replies_at r.replies s)) B (answered_with (part K s 0 txs) (replies_in (replies_at r.replies s))) ∷ []) z
+              ∙ not_here kind b (Finish (r.rest.fins s) B (decisions os (part K s 0 txs)))
+              (Lock (reply_stamp (replies_at r.replies s)) B (answered_with (part K s 0 txs) (replies_in (replies_at r.replies s))) ∷ []) z
               ∙ not_here kind b (Lock (reply_stamp (replies_at r.replies s)) B
-              (answered_with (part K.shards s 0 txs) (replies_in (replies_at r.replies s)))) [] z
+              (answered_with (part K s 0 txs) (replies_in (replies_at r.replies s)))) [] z
         ];
   }
 

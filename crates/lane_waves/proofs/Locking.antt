@@ -3,6 +3,7 @@ use Rattle.std.proofs.Common.{◌≡◌, ◌⊎◌, inl, inr, ⊎_elim, ℕ, ◌
 use Rattle.std.proofs.Common.{Some, None, append_assoc, append-nil, refl, sym, ap, ◌∙◌, subst, arith}
 use Rattle.std.specs.Prelude.{if◌then◌else◌}
 use Rattle.std.specs.Global.{Vec}
+use Rattle.cbdc_model.proofs.Telling.{in_lane_tells}
 use Rattle.cbdc_model.specs.Records.{Record, is_in_lane}
 use Rattle.cbdc_model.specs.Sights.{Sight}
 use Rattle.node_lock.specs.declared.views.Hand.{Hand}
@@ -41,7 +42,7 @@ none_left first whole flight (l ∷ ls) (inl e) = sym e.0
 none_left first whole flight (l ∷ ls) (inr k) = none_left first whole flight ls k
 
 in_lane : (l : ℕ) (r : Record) (log : List Record) → is_in_lane l r ≡ true → of_lane l (r ∷ log) ≡ [] → ⊥
-in_lane l r log e f = let z : r ∷ of_lane l log ≡ [] = subst (λ b. (if b then r ∷ of_lane l log else of_lane l log) ≡ []) e f in cc
+in_lane l r log e f = let z : r ∷ of_lane l log ≡ [] = subst (λ b. (if b then r ∷ of_lane l log else of_lane l log) ≡ []) (in_lane_tells l l r e ∙ e) f in cc
 
 made_none : (first : Sight) (log : List Record) (flight : Option Record) (faults : ℕ) (lanes : List ℕ) (x : ℕ)
     → AllHands first.seen log flight faults (map (fresh first) lanes) → 0 < times x lanes → of_lane x log ≡ []

@@ -15,20 +15,20 @@ use Rattle.record_log.proofs.Records.{FitsHeader}
 use Rattle.rack_ledgers.specs.First.{first_need}
 use Rattle.ledger_init.specs.Made.{first_record_of}
 
-on_length : (shards s : ℕ) (xs : List Digest) → length (on_shard shards s xs) ≤ length xs
-on_length shards s [] = omega arith
-on_length shards s (x ∷ xs) = elim (shard_of shards x == s) as
-    (λ c. length (if c then x ∷ on_shard shards s xs else on_shard shards s xs) ≤ length (x ∷ xs)) [
-      | true ↦ omega (arith, on_length shards s xs)
-      | false ↦ omega (arith, on_length shards s xs)
+on_length : (K : Shape) (s : ℕ) (xs : List Digest) → length (on_shard K s xs) ≤ length xs
+on_length K s [] = omega arith
+on_length K s (x ∷ xs) = elim (shard_of K x == s) as
+    (λ c. length (if c then x ∷ on_shard K s xs else on_shard K s xs) ≤ length (x ∷ xs)) [
+      | true ↦ omega (arith, on_length K s xs)
+      | false ↦ omega (arith, on_length K s xs)
     ]
 
-on_all : (Q : Digest → Type 0) (shards s : ℕ) (xs : List Digest) → AllByRecursion Q xs → AllByRecursion Q (on_shard shards s xs)
-on_all Q shards s [] h = tt
-on_all Q shards s (x ∷ xs) h = elim (shard_of shards x == s) as
-    (λ c. AllByRecursion Q (if c then x ∷ on_shard shards s xs else on_shard shards s xs)) [
-      | true ↦ (h.0, on_all Q shards s xs h.1)
-      | false ↦ on_all Q shards s xs h.1
+on_all : (Q : Digest → Type 0) (K : Shape) (s : ℕ) (xs : List Digest) → AllByRecursion Q xs → AllByRecursion Q (on_shard K s xs)
+on_all Q K s [] h = tt
+on_all Q K s (x ∷ xs) h = elim (shard_of K x == s) as
+    (λ c. AllByRecursion Q (if c then x ∷ on_shard K s xs else on_shard K s xs)) [
+      | true ↦ (h.0, on_all Q K s xs h.1)
+      | false ↦ on_all Q K s xs h.1
     ]
 
 coin_len : (c : Coin) → length (coin_hash c) ≡ 32
@@ -53,14 +53,14 @@ pub first_size : (K : Shape) (mint : List Output) (n : ℕ) → IsWithinLimits K
 first_size K mint n limits few inside =
     let h : Header = header_of K (genesis_id mint) n in
     let fits : FitsHeader h = record { node = omega (arith, inside, limits.coordinators, limits.shards); shape = limits; genesis = id_len mint } in
-    let hs : List Digest = on_shard K.shards (n - K.coordinators) (genesis_hashes mint) in
+    let hs : List Digest = on_shard K (n - K.coordinators) (genesis_hashes mint) in
     let few_here : length hs ≤ 1000000 = omega (
       arith,
-      on_length K.shards (n - K.coordinators) (genesis_hashes mint),
+      on_length K (n - K.coordinators) (genesis_hashes mint),
       made_length (genesis_id mint) 0 mint,
       few,
     ) in
-    let all_here = on_all FitsHash K.shards (n - K.coordinators) (genesis_hashes mint) (made_hashes (genesis_id mint) 0 mint) in
+    let all_here = on_all FitsHash K (n - K.coordinators) (genesis_hashes mint) (made_hashes (genesis_id mint) 0 mint) in
     elim (nat_lt n K.coordinators) as (λ (b : Bool). first_need (if b then Start h else Genesis h hs)
     ≡ size_of (if b then Start h else Genesis h hs) + 1) [
       | true ↦ omega (arith, body_length (Start h) fits)

@@ -3,7 +3,7 @@ ghost use Rattle.std.specs.Prelude.{◌≡◌, ◌≤◌, ◌++◌, ◌∷◌, [
 ghost use Rattle.cbdc_model.specs.Clean.{value_out};
 ghost use Rattle.cbdc_model.specs.Ranges.{on_shard};
 
-use cbdc_types::{Hash, List, Output};
+use cbdc_types::{Hash, List, Output, Shape};
 use shard_ranges::shard_of;
 use std::alloc::{AllocError, Global};
 
@@ -20,11 +20,10 @@ pub(crate) fn total_of(outputs: &[Output]) -> u128
 }
 
 // Puts a hash at the end of a list, if it lies on the shard.
-fn keep(list: &mut Vec<Hash>, hash: &Hash, shards: u32, shard: u32) -> Result<(), AllocError>
-    requires { shards ≤ 64 }
-    ensures { OnOk result (list.new.items ≡ list.old.items ++ on_shard shards shard (hash.now ∷ [])) }
+fn keep(list: &mut Vec<Hash>, hash: &Hash, shape: &Shape, shard: u32) -> Result<(), AllocError>
+    ensures { OnOk result (list.new.items ≡ list.old.items ++ on_shard shape.now shard (hash.now ∷ [])) }
 {
-    if shard_of(hash, shards) == shard {
+    if shard_of(hash, shape) == shard {
         list.push(*hash)?;
     }
     Ok(())
@@ -34,15 +33,14 @@ fn keep(list: &mut Vec<Hash>, hash: &Hash, shards: u32, shard: u32) -> Result<()
 pub(crate) fn hashes_on(
     alloc: Global,
     hashes: &[Hash],
-    shards: u32,
+    shape: &Shape,
     shard: u32,
 ) -> Result<List<Hash>, AllocError>
-    requires { shards ≤ 64 }
-    ensures { IfOk result (λ l. l ≡ on_shard shards shard hashes.now) }
+    ensures { IfOk result (λ l. l ≡ on_shard shape.now shard hashes.now) }
 {
     let mut list = Vec::new(alloc);
     'hashes: for hash in hashes {
-        keep(&mut list, hash, shards, shard)?;
+        keep(&mut list, hash, shape, shard)?;
     }
     Ok(List::from_vec(list))
 }

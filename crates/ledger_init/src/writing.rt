@@ -34,7 +34,7 @@ fn first_of(
     let hashes = hashes_on(
         alloc,
         genesis.outputs.as_slice(),
-        shape.shards(),
+        shape,
         node.0 - coordinators,
     )?;
     Ok(Record::Genesis { header, hashes })

@@ -97,20 +97,19 @@ module _ (K : Shape) (minting : Minted) (P : Compact → Type 0) (shards : 0 < K
         let g = standing K minting P shards later kept (shard_node K s) 3 b (Finish f.0 b f.1) f.2 in
         (g.1, ap decisions_in f.2 ∙ g.2)
 
-    none_there : (s : ℕ) → is_no_part (part K.shards s 0 (txs_of (lane_of later b) b)) ≡ true
-        → has_lock (journal (shard_node K s) (whole later)) b ≡ false
+    none_there : (s : ℕ) → is_no_part (part K s 0 (txs_of (lane_of later b) b)) ≡ true → has_lock (journal (shard_node K s) (whole later)) b ≡ false
     none_there s e = not_true _ (λ h. true_false _ e (concerned s h))
       where
         concerned : (s : ℕ) → has_lock (journal (shard_node K s) (whole later)) b ≡ true
-            → is_no_part (part K.shards s 0 (txs_of (lane_of later b) b)) ≡ false
+            → is_no_part (part K s 0 (txs_of (lane_of later b) b)) ≡ false
         concerned s h = not_empty (lock_of (journal (shard_node K s) (whole later)) b) _
             ((all_structure K minting P shards later kept).lock_part s b h) ((all_more K minting P shards later kept (shard_node K s)).lock_some b h)
 
-    no_finish_there : (s : ℕ) → is_no_part (part K.shards s 0 (txs_of (lane_of later b) b)) ≡ true
+    no_finish_there : (s : ℕ) → is_no_part (part K s 0 (txs_of (lane_of later b) b)) ≡ true
         → has_finish (journal (shard_node K s) (whole later)) b ≡ false
     no_finish_there s e = not_true _ (λ h. true_false _ (finish_facts s h).0 (none_there s e))
 
-    no_forget_there : (s : ℕ) → is_no_part (part K.shards s 0 (txs_of (lane_of later b) b)) ≡ true
+    no_forget_there : (s : ℕ) → is_no_part (part K s 0 (txs_of (lane_of later b) b)) ≡ true
         → has_forget (journal (shard_node K s) (whole later)) b ≡ false
     no_forget_there s e = not_true _ (λ h. true_false _ ((all_dones K minting P shards later kept (shard_node K s)).forgot b h) (no_finish_there s e))
 

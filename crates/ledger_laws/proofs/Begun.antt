@@ -4,7 +4,7 @@ use Rattle.std.proofs.Common.{sym, ap, ◌∙◌, subst, arith}
 use Rattle.cbdc_model.specs.After.{IsFirst}
 use Rattle.cbdc_model.specs.History.{header_of, first_rows, Minted}
 use Rattle.cbdc_model.specs.Ranges.{on_shard}
-use Rattle.cbdc_model.specs.Records.{Shape, Compact, Record, Row, journal, is_in_lane, Genesis, Start}
+use Rattle.cbdc_model.specs.Records.{Shape, Compact, Record, Row, journal, tells_lane, Genesis, Start}
 use Rattle.cbdc_model.specs.World.{first_record}
 use Rattle.ledger_laws.proofs.Next.{Steady}
 use Rattle.ledger_laws.proofs.ByKind.{some_is, next_not_first}
@@ -14,7 +14,7 @@ use Rattle.ledger_laws.proofs.FirstJournals.{first_is, first_beyond}
 
 module _ (K : Shape) (minting : Minted) (P : Compact → Type 0) where
   one_first : (q r : Record) (lane : ℕ) → last_of (q ∷ []) lane ≡ Some r → q ≡ r
-  one_first q r lane e = elim (is_in_lane lane q) as (λ c. cond c (Some q) None ≡ Some r → q ≡ r) [
+  one_first q r lane e = elim (tells_lane lane q) as (λ c. cond c (Some q) None ≡ Some r → q ≡ r) [
     | true ↦ λ g. some_is q r g
     | false ↦ λ g. absurd (let z : None ≡ Some r = g in cc)
   ] e
@@ -44,16 +44,16 @@ module _ (K : Shape) (minting : Minted) (P : Compact → Type 0) where
       here : (row : Row) (later : List Row) (n lane : ℕ) (r : Record) → last_of (row.what ∷ journal n (later ++ first_rows K minting)) lane ≡ Some r
           → (row.what ≡ r → first_record K minting n ≡ r)
           → (last_of (journal n (later ++ first_rows K minting)) lane ≡ Some r → first_record K minting n ≡ r) → first_record K minting n ≡ r
-      here row later n lane r e new old = elim (is_in_lane lane row.what) as
+      here row later n lane r e new old = elim (tells_lane lane row.what) as
           (λ c. cond c (Some row.what) (last_of (journal n (later ++ first_rows K minting)) lane) ≡ Some r → first_record K minting n ≡ r) [
             | true ↦ λ g. new (some_is row.what r g)
             | false ↦ λ g. old g
           ] e
 
   -- a mint's first records say nothing of a lane
-  mint_says : (n lane : ℕ) → is_in_lane lane (first_record K minting n) ≡ true → ⊥
-  mint_says n lane h = elim (nat_lt n K.coordinators) as (λ c. is_in_lane lane (if c then Start (header_of K minting.id n)
-      else Genesis (header_of K minting.id n) (on_shard K.shards (n - K.coordinators) minting.hashes)) ≡ true → ⊥) [
+  mint_says : (n lane : ℕ) → tells_lane lane (first_record K minting n) ≡ true → ⊥
+  mint_says n lane h = elim (nat_lt n K.coordinators) as (λ c. tells_lane lane (if c then Start (header_of K minting.id n)
+      else Genesis (header_of K minting.id n) (on_shard K (n - K.coordinators) minting.hashes)) ≡ true → ⊥) [
         | true ↦ λ h. cc
         | false ↦ λ h. cc
       ] h
@@ -61,5 +61,5 @@ module _ (K : Shape) (minting : Minted) (P : Compact → Type 0) where
   pub not_begun : (later : List Row) → Steady K minting P later → (n lane : ℕ) (r : Record)
       → last_of (journal n (later ++ first_rows K minting)) lane ≡ Some r → IsFirst r → ⊥
   not_begun later kept n lane r e first =
-      mint_says n lane (subst (λ q. is_in_lane lane q ≡ true) (sym (begun_is later kept n lane r e first))
+      mint_says n lane (subst (λ q. tells_lane lane q ≡ true) (sym (begun_is later kept n lane r e first))
       (last_in_lane (journal n (later ++ first_rows K minting)) lane r e))

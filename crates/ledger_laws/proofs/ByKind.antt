@@ -1,7 +1,7 @@
 -- Which record it is: what passes the test for a kind and a batch, and what is found by it. Each kind is gone through here once; a law then asks
 -- for the record of its own kind.
 use Rattle.std.proofs.Common.{◌≡◌, ℕ, ◌+◌, ◌<◌, Bool, true, false, cond, ◌&&◌, ◌==◌, List, [], ◌∷◌, Some, None, is_some, refl, ap, ◌∙◌, subst, arith}
-use Rattle.cbdc_model.specs.Records.{Shape, Batch, same_batch, Compact, Outcome, Answered, Record, record_of, kind_of, is_of, is_in_lane, stamp_of}
+use Rattle.cbdc_model.specs.Records.{Shape, Batch, same_batch, Compact, Outcome, Answered, Record, record_of, kind_of, is_of, tells_lane, stamp_of}
 use Rattle.cbdc_model.specs.Records.{last_stamp, Genesis, Lock, Finish, Forget, Start, Prepare, Commit, Discard, Done, Upgrade, Carry, CarryStart}
 use Rattle.cbdc_model.specs.Records.{Seal}
 use Rattle.cbdc_model.specs.After.{IsFirst}
@@ -147,7 +147,7 @@ not_of_first (CarryStart stamp header source numbers) b first t = cc
 not_of_first other b first t = first
 
 -- a record of a batch is of its lane, and one of a lane is of no other
-pub of_in_lane : (b : Batch) (r : Record) → is_of b r ≡ true → is_in_lane b.lane r ≡ true
+pub of_in_lane : (b : Batch) (r : Record) → is_of b r ≡ true → tells_lane b.lane r ≡ true
 of_in_lane b (Genesis header hs) h = cc
 of_in_lane b (Start header) h = cc
 of_in_lane b (Upgrade stamp batch) h = cc
@@ -181,14 +181,14 @@ held_later pieces (CarryStart stamp header source numbers) held first = held
 held_later pieces other held first = first
 
 -- a record of one lane that is no first record is of no other
-pub lanes_apart : (l m : ℕ) (r : Record) → (IsFirst r → ⊥) → is_in_lane l r ≡ true → (l == m) ≡ false → is_in_lane m r ≡ false
+pub lanes_apart : (l m : ℕ) (r : Record) → (IsFirst r → ⊥) → tells_lane l r ≡ true → (l == m) ≡ false → tells_lane m r ≡ false
 lanes_apart l m (Genesis header hs) later h apart = refl
 lanes_apart l m (Carry stamp header source hs numbers) later h apart = absurd (later tt)
 lanes_apart l m (CarryStart stamp header source numbers) later h apart = absurd (later tt)
 lanes_apart l m other later h apart = grind (arith, h, apart)
 
 -- what a record of another lane leaves of what is found
-pub found_apart : (kind : ℕ) (r : Record) (J : List Record) (c : Batch) → is_in_lane c.lane r ≡ false → record_of kind (r ∷ J) c ≡ record_of kind J c
+pub found_apart : (kind : ℕ) (r : Record) (J : List Record) (c : Batch) → tells_lane c.lane r ≡ false → record_of kind (r ∷ J) c ≡ record_of kind J c
 found_apart kind r J c h = test_step kind r J c (not_true _ (λ t. true_false _ (of_in_lane c r (test_batch kind c r t)) h))
 
 -- what is next is no first record

@@ -148,7 +148,7 @@ module _ (K : Shape) (minting : Minted) (P : Compact → Type 0) (shards : 0 < K
             ∙ ap (λ L. record_of 6 L c) (replaced_away X (shard_node K s) rest (c.lane / K.lanes) apart') in
             subst (λ d. Concerned K (txs_in (record_of 6 (X (d.lane / K.lanes)) d)) s) same (
               in_range K (shard_node K s) rest (Lock stamp c es) f.0 s refl,
-              not_empty es _ (f.1.caused.1 s refl ∙ ap (λ o. part K.shards s 0 (txs_in o)) cause) f.0.5,
+              not_empty es _ (f.1.caused.1 s refl ∙ ap (λ o. part K s 0 (txs_in o)) cause) f.0.5,
             )
         lock_is other newer rest e t = absurd (let z : false ≡ true = t in cc)
 

@@ -156,27 +156,27 @@ journal_past K minting s (suc m) h = skipped K minting s m (journal_past K minti
 
 pub journal_genesis : (K : Shape) (minting : Minted) (s m : ℕ) → s < m
     → journal (shard_node K s) (geneses K minting m ++ starts K minting K.coordinators)
-    ≡ Genesis (header_of K minting.id (shard_node K s)) (on_shard K.shards s minting.hashes) ∷ []
+    ≡ Genesis (header_of K minting.id (shard_node K s)) (on_shard K s minting.hashes) ∷ []
 journal_genesis K minting s zero h = absurd (omega arith)
 journal_genesis K minting s (suc m) h =
     let cases : (s ≡ m) ⊎ (s < m) = grind arith in
     elim cases [
       | inl e ↦ subst (λ k. journal (shard_node K s) (geneses K minting (suc k) ++ starts K minting K.coordinators)
-          ≡ Genesis (header_of K minting.id (shard_node K s)) (on_shard K.shards s minting.hashes) ∷ []) e
+          ≡ Genesis (header_of K minting.id (shard_node K s)) (on_shard K s minting.hashes) ∷ []) e
           (first K minting s (journal_past K minting s s (omega arith)))
       | inr lt ↦ later K minting s m lt (journal_genesis K minting s m lt)
     ]
   where
     first : (K : Shape) (minting : Minted) (s : ℕ) → journal (shard_node K s) (geneses K minting s ++ starts K minting K.coordinators) ≡ []
         → journal (shard_node K s) (geneses K minting (suc s) ++ starts K minting K.coordinators)
-        ≡ Genesis (header_of K minting.id (shard_node K s)) (on_shard K.shards s minting.hashes) ∷ []
+        ≡ Genesis (header_of K minting.id (shard_node K s)) (on_shard K s minting.hashes) ∷ []
     first K minting s e = grind arith
 
     later : (K : Shape) (minting : Minted) (s m : ℕ) → s < m
         → journal (shard_node K s) (geneses K minting m ++ starts K minting K.coordinators)
-        ≡ Genesis (header_of K minting.id (shard_node K s)) (on_shard K.shards s minting.hashes) ∷ []
+        ≡ Genesis (header_of K minting.id (shard_node K s)) (on_shard K s minting.hashes) ∷ []
         → journal (shard_node K s) (geneses K minting (suc m) ++ starts K minting K.coordinators)
-        ≡ Genesis (header_of K minting.id (shard_node K s)) (on_shard K.shards s minting.hashes) ∷ []
+        ≡ Genesis (header_of K minting.id (shard_node K s)) (on_shard K s minting.hashes) ∷ []
     later K minting s m lt e = grind arith
 
 module _ (K : Shape) (minting : Minted) (P : Compact → Type 0) (shards : 0 < K.shards) where
@@ -204,48 +204,37 @@ module _ (K : Shape) (minting : Minted) (P : Compact → Type 0) (shards : 0 < K
   }
 
   genesis_at : (x : Digest) → journal_at K (first_rows K minting) x
-      ≡ Genesis (header_of K minting.id (shard_node K (shard_of K.shards x))) (on_shard K.shards (shard_of K.shards x) minting.hashes) ∷ []
-  genesis_at x = journal_genesis K minting (shard_of K.shards x) K.shards (shard_of-lt K.shards x shards)
+      ≡ Genesis (header_of K minting.id (shard_node K (shard_of K x))) (on_shard K (shard_of K x) minting.hashes) ∷ []
+  genesis_at x = journal_genesis K minting (shard_of K x) K.shards (shard_of-lt K x shards)
 
   first_arrived : (x : Digest) → arrived (journal_at K (first_rows K minting) x) x ≡ count x minting.hashes
   first_arrived x = ap (λ J. arrived J x) (genesis_at x)
-      ∙ (let e : count x (on_shard K.shards (shard_of K.shards x) minting.hashes) + 0 ≡ count x minting.hashes =
-      omega (arith, count-on_shard K.shards x minting.hashes) in e)
+      ∙ (let e : count x (on_shard K (shard_of K x) minting.hashes) + 0 ≡ count x minting.hashes = omega (arith, count-on_shard K x minting.hashes)
+      in e)
 
   module _ (x : Digest) where
     there : List Digest
-    there = on_shard K.shards (shard_of K.shards x) minting.hashes
+    there = on_shard K (shard_of K x) minting.hashes
 
-    first_status : status (journal_at K (first_rows K minting) x) x
-        ≡ (if has (on_shard K.shards (shard_of K.shards x) minting.hashes) x then Unspent else Absent)
+    first_status : status (journal_at K (first_rows K minting) x) x ≡ (if has (on_shard K (shard_of K x) minting.hashes) x then Unspent else Absent)
     first_status = ap (λ J. status J x) (genesis_at x)
 
     has_it : status (journal_at K (first_rows K minting) x) x ≡ Unspent → 0 < count x minting.hashes
-    has_it e = elim (has (on_shard K.shards (shard_of K.shards x) minting.hashes) x) as
-        (λ c. has (on_shard K.shards (shard_of K.shards x) minting.hashes) x ≡ c
+    has_it e = elim (has (on_shard K (shard_of K x) minting.hashes) x) as (λ c. has (on_shard K (shard_of K x) minting.hashes) x ≡ c
         → Unspent ≡ (if c then Unspent else Absent) → 0 < count x minting.hashes) [
-          | true ↦ λ h _. omega (
-            arith,
-            has-count x (on_shard K.shards (shard_of K.shards x) minting.hashes) h,
-            count-on_shard K.shards x minting.hashes,
-          )
+          | true ↦ λ h _. omega (arith, has-count x (on_shard K (shard_of K x) minting.hashes) h, count-on_shard K x minting.hashes)
           | false ↦ λ h q. absurd (let r : Unspent ≡ Absent = q in cc)
         ] refl (sym e ∙ first_status)
 
     has_none : status (journal_at K (first_rows K minting) x) x ≡ Absent → count x minting.hashes ≡ 0
-    has_none e = elim (has (on_shard K.shards (shard_of K.shards x) minting.hashes) x) as
-        (λ c. has (on_shard K.shards (shard_of K.shards x) minting.hashes) x ≡ c
+    has_none e = elim (has (on_shard K (shard_of K x) minting.hashes) x) as (λ c. has (on_shard K (shard_of K x) minting.hashes) x ≡ c
         → Absent ≡ (if c then Unspent else Absent) → count x minting.hashes ≡ 0) [
           | true ↦ λ h q. absurd (let r : Absent ≡ Unspent = q in cc)
-          | false ↦ λ h _. omega (
-            arith,
-            not_has-count x (on_shard K.shards (shard_of K.shards x) minting.hashes) h,
-            count-on_shard K.shards x minting.hashes,
-          )
+          | false ↦ λ h _. omega (arith, not_has-count x (on_shard K (shard_of K x) minting.hashes) h, count-on_shard K x minting.hashes)
         ] refl (sym e ∙ first_status)
 
     not_locked : (b : Batch) → status (journal_at K (first_rows K minting) x) x ≡ Locked b → ⊥
-    not_locked b e = elim (has (on_shard K.shards (shard_of K.shards x) minting.hashes) x) as (λ c. Locked b ≡ (if c then Unspent else Absent) → ⊥) [
+    not_locked b e = elim (has (on_shard K (shard_of K x) minting.hashes) x) as (λ c. Locked b ≡ (if c then Unspent else Absent) → ⊥) [
       | true ↦ λ q. let r : Locked b ≡ Unspent = q in cc
       | false ↦ λ q. let r : Locked b ≡ Absent = q in cc
     ] (sym e ∙ first_status)
@@ -258,7 +247,7 @@ module _ (K : Shape) (minting : Minted) (P : Compact → Type 0) (shards : 0 < K
       let won : (b : Batch) → won_of K (first_rows K minting) b ≡ [] =
       λ b. ap (λ ts. won_txs ts (outcomes_of (lane_journal K (first_rows K minting) b) b)) ((none_at (b.lane / K.lanes)).txs b) in
       let holds : (x : Digest) (b : Batch) → count x (held_inputs (lock_of (journal_at K (first_rows K minting) x) b)) ≡ 0
-      = λ x b. ap (λ a. count x (held_inputs a)) ((none_at (shard_node K (shard_of K.shards x))).locks b) in
+      = λ x b. ap (λ a. count x (held_inputs a)) ((none_at (shard_node K (shard_of K x))).locks b) in
       let makes : (x : Digest) (b : Batch) → count x (all_outputs (won_of K (first_rows K minting) b)) ≡ 0 =
       λ x b. ap (λ ts. count x (all_outputs ts)) (won b) in
       let takes : (x : Digest) (b : Batch) → count x (all_inputs (won_of K (first_rows K minting) b)) ≡ 0 =

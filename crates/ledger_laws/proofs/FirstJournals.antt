@@ -38,12 +38,11 @@ skip_geneses K minting n (suc m) h = skipped K minting n m h (skip_geneses K min
 pub first_is : (K : Shape) (minting : Minted) (n : ℕ) → n < K.coordinators + K.shards
     → journal n (first_rows K minting) ≡ first_record K minting n ∷ []
 first_is K minting n lt = elim (nat_lt n K.coordinators) as (λ c. nat_lt n K.coordinators ≡ c → journal n (first_rows K minting)
-    ≡ (if c then Start (header_of K minting.id n) else Genesis (header_of K minting.id n) (on_shard K.shards (n - K.coordinators) minting.hashes))
-    ∷ []) [
+    ≡ (if c then Start (header_of K minting.id n) else Genesis (header_of K minting.id n) (on_shard K (n - K.coordinators) minting.hashes)) ∷ []) [
       | true ↦ λ e. let l : n < K.coordinators = grind (arith, e) in skip_geneses K minting n K.shards l ∙ start_in K minting n K.coordinators l
       | false ↦ λ e. let l : K.coordinators ≤ n = grind (arith, e) in
-          subst (λ m. journal m (first_rows K minting)
-          ≡ Genesis (header_of K minting.id m) (on_shard K.shards (n - K.coordinators) minting.hashes) ∷ []) (omega arith)
+          subst (λ m. journal m (first_rows K minting) ≡ Genesis (header_of K minting.id m) (on_shard K (n - K.coordinators) minting.hashes) ∷ [])
+          (omega arith)
           (journal_genesis K minting (n - K.coordinators) K.shards (omega arith))
     ] refl
 

@@ -12,35 +12,31 @@ use Rattle.cbdc_model.specs.Grammar.{IsHash, IsBatchOf, IsHashList, RisesFrom, I
 use Rattle.ledger_laws.proofs.Lookups.{number_is}
 
 -- the hashes of a list that lie on a shard
-on_length : (shards s : ℕ) (xs : List Digest) → length (on_shard shards s xs) ≤ length xs
-on_length shards s [] = omega arith
-on_length shards s (x ∷ xs) = elim (shard_of shards x == s) as
-    (λ c. length (if c then x ∷ on_shard shards s xs else on_shard shards s xs) ≤ length (x ∷ xs)) [
-      | true ↦ omega (arith, on_length shards s xs)
-      | false ↦ omega (arith, on_length shards s xs)
-    ]
+on_length : (K : Shape) (s : ℕ) (xs : List Digest) → length (on_shard K s xs) ≤ length xs
+on_length K s [] = omega arith
+on_length K s (x ∷ xs) = elim (shard_of K x == s) as (λ c. length (if c then x ∷ on_shard K s xs else on_shard K s xs) ≤ length (x ∷ xs)) [
+  | true ↦ omega (arith, on_length K s xs)
+  | false ↦ omega (arith, on_length K s xs)
+]
 
-on_all : (Q : Digest → Type 0) (shards s : ℕ) (xs : List Digest) → AllByRecursion Q xs → AllByRecursion Q (on_shard shards s xs)
-on_all Q shards s [] h = tt
-on_all Q shards s (x ∷ xs) h = elim (shard_of shards x == s) as
-    (λ c. AllByRecursion Q (if c then x ∷ on_shard shards s xs else on_shard shards s xs)) [
-      | true ↦ (h.0, on_all Q shards s xs h.1)
-      | false ↦ on_all Q shards s xs h.1
-    ]
+on_all : (Q : Digest → Type 0) (K : Shape) (s : ℕ) (xs : List Digest) → AllByRecursion Q xs → AllByRecursion Q (on_shard K s xs)
+on_all Q K s [] h = tt
+on_all Q K s (x ∷ xs) h = elim (shard_of K x == s) as (λ c. AllByRecursion Q (if c then x ∷ on_shard K s xs else on_shard K s xs)) [
+  | true ↦ (h.0, on_all Q K s xs h.1)
+  | false ↦ on_all Q K s xs h.1
+]
 
-on_here : (K : Shape) (s : ℕ) (xs : List Digest) → AllByRecursion (λ x. shard_node K (shard_of K.shards x) ≡ shard_node K s) (on_shard K.shards s xs)
+on_here : (K : Shape) (s : ℕ) (xs : List Digest) → AllByRecursion (λ x. shard_node K (shard_of K x) ≡ shard_node K s) (on_shard K s xs)
 on_here K s [] = tt
-on_here K s (x ∷ xs) = elim (shard_of K.shards x == s) as (λ c. (shard_of K.shards x == s) ≡ c
-    → AllByRecursion (λ x. shard_node K (shard_of K.shards x) ≡ shard_node K s) (if c then x ∷ on_shard K.shards s xs else on_shard K.shards s xs)) [
-      | true ↦ λ e. (ap (λ n. K.coordinators + n) (number_is (shard_of K.shards x) s e), on_here K s xs)
+on_here K s (x ∷ xs) = elim (shard_of K x == s) as (λ c. (shard_of K x == s) ≡ c
+    → AllByRecursion (λ x. shard_node K (shard_of K x) ≡ shard_node K s) (if c then x ∷ on_shard K s xs else on_shard K s xs)) [
+      | true ↦ λ e. (ap (λ n. K.coordinators + n) (number_is (shard_of K x) s e), on_here K s xs)
       | false ↦ λ e. on_here K s xs
     ] refl
 
-hash_list : (shards s : ℕ) (xs : List Digest) → IsHashList xs → IsHashList (on_shard shards s xs)
-hash_list shards s xs h = (
-  omega (arith, on_length shards s xs, h.0),
-  All-from_recursion IsHash (on_shard shards s xs) (on_all IsHash shards s xs (recursion_from_All IsHash xs h.1)),
-)
+hash_list : (K : Shape) (s : ℕ) (xs : List Digest) → IsHashList xs → IsHashList (on_shard K s xs)
+hash_list K s xs h =
+    (omega (arith, on_length K s xs, h.0), All-from_recursion IsHash (on_shard K s xs) (on_all IsHash K s xs (recursion_from_All IsHash xs h.1)))
 
 some_hash : (xs ys : List Digest) → (is_empty xs && is_empty ys) ≡ false → 1 ≤ length xs + length ys
 some_hash [] [] e = absurd (let z : true ≡ false = e in cc)
@@ -67,17 +63,16 @@ module _ (K : Shape) (s : ℕ) (J : List Record) (b : Batch) (of_shape : IsBatch
   reply_fits claimed (x ∷ xs) h = refused K b of_shape (status J x) x (has claimed x) (reply_to J b claimed xs) h.0 (λ by e. holders x by e)
       (reply_fits claimed xs h.1)
 
-  entry_fits : (k : ℕ) (t : Compact) (r : Reply) → IsCompact t
-      → (is_empty (on_shard K.shards s t.inputs) && is_empty (on_shard K.shards s t.outputs)) ≡ false → IsReply K r
-      → IsEntry K (shard_node K s) (record { entry = entry_of K.shards s k t; reply = r })
+  entry_fits : (k : ℕ) (t : Compact) (r : Reply) → IsCompact t → (is_empty (on_shard K s t.inputs) && is_empty (on_shard K s t.outputs)) ≡ false
+      → IsReply K r
+      → IsEntry K (shard_node K s) (record { entry = entry_of K s k t; reply = r })
   entry_fits k t r c e h = record {
     id = c.id;
-    inputs = hash_list K.shards s t.inputs c.inputs;
-    outputs = hash_list K.shards s t.outputs c.outputs;
-    some = some_hash (on_shard K.shards s t.inputs) (on_shard K.shards s t.outputs) e;
-    inputs_here = All-from_recursion (λ x. shard_node K (shard_of K.shards x) ≡ shard_node K s) (on_shard K.shards s t.inputs) (on_here K s t.inputs);
-    outputs_here = All-from_recursion (λ x. shard_node K (shard_of K.shards x) ≡ shard_node K s) (on_shard K.shards s t.outputs)
-        (on_here K s t.outputs);
+    inputs = hash_list K s t.inputs c.inputs;
+    outputs = hash_list K s t.outputs c.outputs;
+    some = some_hash (on_shard K s t.inputs) (on_shard K s t.outputs) e;
+    inputs_here = All-from_recursion (λ x. shard_node K (shard_of K x) ≡ shard_node K s) (on_shard K s t.inputs) (on_here K s t.inputs);
+    outputs_here = All-from_recursion (λ x. shard_node K (shard_of K x) ≡ shard_node K s) (on_shard K s t.outputs) (on_here K s t.outputs);
     reply = h;
   }
 
@@ -87,25 +82,23 @@ module _ (K : Shape) (s : ℕ) (J : List Record) (b : Batch) (of_shape : IsBatch
     pub size : length es ≤ most
 
   pub part_fits : (claimed : List Digest) (k limit : ℕ) (txs : List Compact) → AllByRecursion IsCompact txs → k + length txs ≤ limit
-      → Fits k limit (length txs) (answered J b claimed (part K.shards s k txs))
+      → Fits k limit (length txs) (answered J b claimed (part K s k txs))
   part_fits claimed k limit [] h le = record { all = tt; rises = tt; size = omega arith }
-  part_fits claimed k limit (t ∷ ts) h le = elim (is_empty (on_shard K.shards s t.inputs) && is_empty (on_shard K.shards s t.outputs))
-      as (λ c. (is_empty (on_shard K.shards s t.inputs) && is_empty (on_shard K.shards s t.outputs)) ≡ c
-      → Fits k limit (length (t ∷ ts)) (answered J b claimed
-      (if c then part K.shards s (suc k) ts else entry_of K.shards s k t ∷ part K.shards s (suc k) ts))) [
-        | true ↦ λ e. later_fits (answered J b claimed (part K.shards s (suc k) ts)) (part_fits claimed (suc k) limit ts h.1 (omega arith))
-        | false ↦ λ e. first_fits (reply_to J b claimed (on_shard K.shards s t.inputs)) e
-            (reply_fits claimed (on_shard K.shards s t.inputs) (on_all IsHash K.shards s t.inputs (recursion_from_All IsHash t.inputs h.0.inputs.1)))
-            _ (part_fits (if is_held (reply_to J b claimed (on_shard K.shards s t.inputs)) then on_shard K.shards s t.inputs ++ claimed else claimed)
-            (suc k) limit ts h.1 (omega arith))
+  part_fits claimed k limit (t ∷ ts) h le = elim (is_empty (on_shard K s t.inputs) && is_empty (on_shard K s t.outputs))
+      as (λ c. (is_empty (on_shard K s t.inputs) && is_empty (on_shard K s t.outputs)) ≡ c
+      → Fits k limit (length (t ∷ ts)) (answered J b claimed (if c then part K s (suc k) ts else entry_of K s k t ∷ part K s (suc k) ts))) [
+        | true ↦ λ e. later_fits (answered J b claimed (part K s (suc k) ts)) (part_fits claimed (suc k) limit ts h.1 (omega arith))
+        | false ↦ λ e. first_fits (reply_to J b claimed (on_shard K s t.inputs)) e
+            (reply_fits claimed (on_shard K s t.inputs) (on_all IsHash K s t.inputs (recursion_from_All IsHash t.inputs h.0.inputs.1)))
+            _ (part_fits (if is_held (reply_to J b claimed (on_shard K s t.inputs)) then on_shard K s t.inputs ++ claimed else claimed) (suc k) limit
+            ts h.1 (omega arith))
       ] refl
     where
       later_fits : (es : List Answered) → Fits (suc k) limit (length ts) es → Fits k limit (length (t ∷ ts)) es
       later_fits es f = record { all = f.all; rises = rises_lower k (suc k) limit es (omega arith) f.rises; size = omega (arith, f.size) }
 
-      first_fits : (r : Reply) → (is_empty (on_shard K.shards s t.inputs) && is_empty (on_shard K.shards s t.outputs)) ≡ false → IsReply K r
-          → (es : List Answered)
-          → Fits (suc k) limit (length ts) es → Fits k limit (length (t ∷ ts)) (record { entry = entry_of K.shards s k t; reply = r } ∷ es)
+      first_fits : (r : Reply) → (is_empty (on_shard K s t.inputs) && is_empty (on_shard K s t.outputs)) ≡ false → IsReply K r → (es : List Answered)
+          → Fits (suc k) limit (length ts) es → Fits k limit (length (t ∷ ts)) (record { entry = entry_of K s k t; reply = r } ∷ es)
       first_fits r e fit es f = record {
         all = (entry_fits k t r h.0 e fit, f.all);
         rises = (omega arith, omega arith, rises_lower (k + 1) (suc k) limit es (omega arith) f.rises);

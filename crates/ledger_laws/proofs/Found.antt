@@ -3,7 +3,7 @@ use Rattle.std.proofs.Common.{◌≡◌, ℕ, ◌<◌, ◌≤◌, ◌/◌, true,
 use Rattle.std.proofs.Common.{subst, arith}
 use Rattle.std.specs.List.{AllByRecursion}
 use Rattle.std.proofs.lemmas.List.Elements.{recursion_from_All}
-use Rattle.cbdc_model.specs.Records.{Digest, Shape, Batch, same_batch, Compact, Outcome, Record, Row, journal, record_of, kind_of, is_of, is_in_lane}
+use Rattle.cbdc_model.specs.Records.{Digest, Shape, Batch, same_batch, Compact, Outcome, Record, Row, journal, record_of, kind_of, is_of, tells_lane}
 use Rattle.cbdc_model.specs.Records.{entries_in, lock_of, txs_of, Lock, Forget, Commit, Done, Carry, CarryStart}
 use Rattle.cbdc_model.specs.Slots.{slot, Idle}
 use Rattle.cbdc_model.specs.Status.{status, Locked}
@@ -83,7 +83,7 @@ module _ (K : Shape) (minting : Minted) (P : Compact → Type 0) (shards : 0 < K
             (sym (ap (λ q. q.phase) (last.slot_is (J (shard_node K s)) b.lane ∙ ap (last.slot_by b.lane) e)) ∙ p)
       ] refl
     where
-      of_record : (r : Record) → last.last_of (J (shard_node K s)) b.lane ≡ Some r → is_in_lane b.lane r ≡ true
+      of_record : (r : Record) → last.last_of (J (shard_node K s)) b.lane ≡ Some r → tells_lane b.lane r ≡ true
           → (last.slot_by b.lane (Some r)).number ≡ b.number
           → (last.slot_by b.lane (Some r)).phase ≡ Idle → has_forget (J (shard_node K s)) b ≡ true
       of_record (Forget stamp c) e l m i = ap is_some (last.last_found (J (shard_node K s)) 4 b (Forget stamp c) e (both_same c b l m))

@@ -40,8 +40,7 @@ module _ (K : Shape) (P : Compact → Type 0) (past : List Row) (st : Structure 
           (st.finish_committed n b (sym (unchanged (λ J. has_finish J b) n row past (same_finish (journal n past) b)) ∙ h));
       lock_part = λ s b h. ap entries (unchanged (λ J. lock_of J b) (shard_node K s) row past (same_lock (journal (shard_node K s) past) b))
           ∙ st.lock_part s b (sym (unchanged (λ J. has_lock J b) (shard_node K s) row past (same_has_lock (journal (shard_node K s) past) b)) ∙ h)
-          ∙ ap (λ ts. part K.shards s 0 ts) (sym (unchanged (λ J. txs_of J b) (b.lane / K.lanes) row past
-          (same_txs (journal (b.lane / K.lanes) past) b)));
+          ∙ ap (λ ts. part K s 0 ts) (sym (unchanged (λ J. txs_of J b) (b.lane / K.lanes) row past (same_txs (journal (b.lane / K.lanes) past) b)));
       proper = λ b. subst (λ ts. Each P ts) (sym (unchanged (λ J. txs_of J b) (b.lane / K.lanes) row past
           (same_txs (journal (b.lane / K.lanes) past) b))) (st.proper b);
     }
@@ -94,7 +93,7 @@ module _ (K : Shape) (P : Compact → Type 0) (past : List Row) (st : Structure 
 
     lock_part_next : (s : ℕ) (c : Batch) → has_lock (journal (shard_node K s) (record { node = node; what = Lock stamp b es } ∷ past)) c ≡ true
         → entries (lock_of (journal (shard_node K s) (record { node = node; what = Lock stamp b es } ∷ past)) c)
-        ≡ part K.shards s 0 (txs_of (lane_journal K (record { node = node; what = Lock stamp b es } ∷ past) c) c)
+        ≡ part K s 0 (txs_of (lane_journal K (record { node = node; what = Lock stamp b es } ∷ past) c) c)
     lock_part_next s c h =
         let same_txs : txs_of (lane_journal K (record { node = node; what = Lock stamp b es } ∷ past) c) c ≡ txs_of (lane_journal K past c) c
         = unchanged (λ J. txs_of J c) (c.lane / K.lanes) (record { node = node; what = Lock stamp b es }) past refl in
@@ -102,10 +101,9 @@ module _ (K : Shape) (P : Compact → Type 0) (past : List Row) (st : Structure 
           | inl new ↦
               let is : lock_of (journal (shard_node K s) (record { node = node; what = Lock stamp b es } ∷ past)) c ≡ es
               = subst (λ n. lock_of (journal n (record { node = node; what = Lock stamp b es } ∷ past)) c ≡ es) new.1 (lock_of_new c new.0) in
-              ap entries is ∙ subst (λ d. entries es ≡ part K.shards s 0 (txs_of (lane_journal K past d) d)) (same_batch_is b c new.0)
-              (caused.1 s new.1)
-              ∙ ap (λ ts. part K.shards s 0 ts) (sym same_txs)
-          | inr old ↦ ap entries (same_lock s c old) ∙ st.lock_part s c old ∙ ap (λ ts. part K.shards s 0 ts) (sym same_txs)
+              ap entries is ∙ subst (λ d. entries es ≡ part K s 0 (txs_of (lane_journal K past d) d)) (same_batch_is b c new.0) (caused.1 s new.1)
+              ∙ ap (λ ts. part K s 0 ts) (sym same_txs)
+          | inr old ↦ ap entries (same_lock s c old) ∙ st.lock_part s c old ∙ ap (λ ts. part K s 0 ts) (sym same_txs)
         ]
       where
         same_lock : (s : ℕ) (c : Batch) → has_lock (journal (shard_node K s) past) c ≡ true
@@ -150,14 +148,14 @@ module _ (K : Shape) (P : Compact → Type 0) (past : List Row) (st : Structure 
 
     prepare_lock_part : (s : ℕ) (c : Batch) → has_lock (journal (shard_node K s) (record { node = node; what = Prepare stamp b txs } ∷ past)) c ≡ true
         → entries (lock_of (journal (shard_node K s) (record { node = node; what = Prepare stamp b txs } ∷ past)) c)
-        ≡ part K.shards s 0 (txs_of (lane_journal K (record { node = node; what = Prepare stamp b txs } ∷ past) c) c)
+        ≡ part K s 0 (txs_of (lane_journal K (record { node = node; what = Prepare stamp b txs } ∷ past) c) c)
     prepare_lock_part s c h =
         let old : has_lock (journal (shard_node K s) past) c ≡ true
         = sym (unchanged (λ J. has_lock J c) (shard_node K s) (record { node = node; what = Prepare stamp b txs }) past refl) ∙ h in
         elim (same_or_not b c) [
           | same e ↦ absurd (fresh (subst (λ d. has_prepare (lane_journal K past d) d ≡ true) (sym e) (st.lock_prepared (shard_node K s) c old)))
           | other o ↦ ap entries (unchanged (λ J. lock_of J c) (shard_node K s) (record { node = node; what = Prepare stamp b txs }) past refl)
-              ∙ st.lock_part s c old ∙ ap (λ ts. part K.shards s 0 ts) (sym (txs_of_other (c.lane / K.lanes) c o))
+              ∙ st.lock_part s c old ∙ ap (λ ts. part K s 0 ts) (sym (txs_of_other (c.lane / K.lanes) c o))
         ]
 
     prepare_proper : (c : Batch) → Each P (txs_of (lane_journal K (record { node = node; what = Prepare stamp b txs } ∷ past) c) c)
@@ -200,8 +198,8 @@ module _ (K : Shape) (P : Compact → Type 0) (past : List Row) (st : Structure 
           ];
       lock_part = λ s c h. ap entries (unchanged (λ J. lock_of J c) (shard_node K s) (record { node = node; what = Finish stamp b ds }) past refl)
           ∙ st.lock_part s c (sym (unchanged (λ J. has_lock J c) (shard_node K s) (record { node = node; what = Finish stamp b ds }) past refl) ∙ h)
-          ∙ ap (λ ts. part K.shards s 0 ts) (sym (unchanged (λ J. txs_of J c) (c.lane / K.lanes) (record { node = node; what = Finish stamp b ds })
-          past refl));
+          ∙ ap (λ ts. part K s 0 ts) (sym (unchanged (λ J. txs_of J c) (c.lane / K.lanes) (record { node = node; what = Finish stamp b ds }) past
+          refl));
       proper = λ c. subst (λ ts. Each P ts) (sym (unchanged (λ J. txs_of J c) (c.lane / K.lanes) (record { node = node; what = Finish stamp b ds })
           past refl)) (st.proper c);
     }

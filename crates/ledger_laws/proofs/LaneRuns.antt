@@ -125,8 +125,8 @@ module _ (K : Shape) (minting : Minted) (P : Compact → Type 0) (shards : 0 < K
 
       turn : (v : World) → Open K minting P shards (top + n) v → Asked kind H n v
           → Goes K minting P shards (top + suc n) b.lane v (Asked kind H (suc n))
-      turn v o q = elim (is_no_part (part K.shards n 0 txs)) as
-          (λ c. is_no_part (part K.shards n 0 txs) ≡ c → Goes K minting P shards (top + suc n) b.lane v (Asked kind H (suc n))) [
+      turn v o q = elim (is_no_part (part K n 0 txs)) as
+          (λ c. is_no_part (part K n 0 txs) ≡ c → Goes K minting P shards (top + suc n) b.lane v (Asked kind H (suc n))) [
             | true ↦ λ e. idle_turn v o q (λ c. absurd (true_false _ e c.1))
             | false ↦ λ e. elim (is_some (record_of kind (journals v (shard_node K n)) b)) as
                 (λ h. is_some (record_of kind (journals v (shard_node K n)) b) ≡ h

@@ -1,14 +1,14 @@
 -- The last record of a lane in a journal, against the slot.
 use Rattle.std.proofs.Common.{◌≡◌, ◌⊎◌, inl, inr, ℕ, ◌%◌, Bool, true, false, cond, ◌&&◌, ◌==◌, if◌then◌else◌, List, [], ◌∷◌, Option, Some, None}
 use Rattle.std.proofs.Common.{is_some, find, refl, sym, ap, ◌∙◌, subst, arith}
-use Rattle.cbdc_model.specs.Records.{Batch, Record, record_of, kind_of, is_of, is_in_lane, stamp_of, stamp_in, Genesis, Lock, Finish, Forget, Start}
+use Rattle.cbdc_model.specs.Records.{Batch, Record, record_of, kind_of, is_of, tells_lane, stamp_of, stamp_in, Genesis, Lock, Finish, Forget, Start}
 use Rattle.cbdc_model.specs.Records.{Prepare, Commit, Discard, Done, Upgrade, Carry, CarryStart, Seal}
 use Rattle.cbdc_model.specs.After.{IsFirst}
 use Rattle.cbdc_model.specs.Slots.{Phase, Slot, number_at, slot, slot_stamp, Idle, InLock, InFinish, InPrepare, InCommit, InDiscard}
 use Rattle.ledger_laws.proofs.ByKind.{some_is, of_in_lane}
 
 abbrev pub last_of : List Record → ℕ → Option Record
-last_of J lane = find (λ r. is_in_lane lane r) J
+last_of J lane = find (λ r. tells_lane lane r) J
 
 abbrev pub slot_by : ℕ → Option Record → Slot
 slot_by lane None = record { number = 0; phase = Idle }
@@ -27,7 +27,7 @@ slot_by lane (Some (CarryStart stamp header source numbers)) = record { number =
 slot_by lane (Some (Seal stamp to shards)) = record { number = 0; phase = Idle }
 
 -- what a record leaves in a lane's slot
-pub slot_next : (r : Record) (J : List Record) (lane : ℕ) → slot (r ∷ J) lane ≡ (if is_in_lane lane r then slot_by lane (Some r) else slot J lane)
+pub slot_next : (r : Record) (J : List Record) (lane : ℕ) → slot (r ∷ J) lane ≡ (if tells_lane lane r then slot_by lane (Some r) else slot J lane)
 slot_next (Genesis header hs) J lane = refl
 slot_next other J lane = refl
 
@@ -38,7 +38,7 @@ slot_head lane false r rest s e = e
 
 pub slot_is : (J : List Record) (lane : ℕ) → slot J lane ≡ slot_by lane (last_of J lane)
 slot_is [] lane = refl
-slot_is (r ∷ J) lane = slot_next r J lane ∙ slot_head lane (is_in_lane lane r) (Some r) (last_of J lane) (slot J lane) (slot_is J lane)
+slot_is (r ∷ J) lane = slot_next r J lane ∙ slot_head lane (tells_lane lane r) (Some r) (last_of J lane) (slot J lane) (slot_is J lane)
 
 -- a first record leaves a lane idle
 pub first_idle : (lane : ℕ) (r : Record) → IsFirst r → (slot_by lane (Some r)).phase ≡ Idle
@@ -49,7 +49,7 @@ first_idle lane (CarryStart stamp header source numbers) first = refl
 first_idle lane other first = absurd first
 
 -- a record of one lane leaves the slots of the others
-pub slot_stays : (r : Record) (J : List Record) (lane : ℕ) → is_in_lane lane r ≡ false → slot (r ∷ J) lane ≡ slot J lane
+pub slot_stays : (r : Record) (J : List Record) (lane : ℕ) → tells_lane lane r ≡ false → slot (r ∷ J) lane ≡ slot J lane
 slot_stays r J lane h = slot_next r J lane ∙ ap (λ c. if c then slot_by lane (Some r) else slot J lane) h
 
 second : (a b : Bool) → (a && b) ≡ true → b ≡ true
@@ -64,8 +64,8 @@ last_found (q ∷ J) kind b r e t = step kind q J b r e t (λ g. last_found J ki
     step : (kind : ℕ) (q : Record) (J : List Record) (b : Batch) (r : Record) → last_of (q ∷ J) b.lane ≡ Some r
         → ((kind_of r == kind) && is_of b r) ≡ true
         → (last_of J b.lane ≡ Some r → record_of kind J b ≡ Some r) → record_of kind (q ∷ J) b ≡ Some r
-    step kind q J b r e t rest = elim (is_in_lane b.lane q) as
-        (λ c. is_in_lane b.lane q ≡ c → cond c (Some q) (last_of J b.lane) ≡ Some r → record_of kind (q ∷ J) b ≡ Some r) [
+    step kind q J b r e t rest = elim (tells_lane b.lane q) as
+        (λ c. tells_lane b.lane q ≡ c → cond c (Some q) (last_of J b.lane) ≡ Some r → record_of kind (q ∷ J) b ≡ Some r) [
           | true ↦ λ l g.
               let same : q ≡ r = some_is q r g in
               let t' : ((kind_of q == kind) && is_of b q) ≡ true = subst (λ a. ((kind_of a == kind) && is_of b a) ≡ true) (sym same) t in
@@ -77,20 +77,20 @@ last_found (q ∷ J) kind b r e t = step kind q J b r e t (λ g. last_found J ki
               ] refl
         ] refl e
 
-pub last_in_lane : (J : List Record) (lane : ℕ) (r : Record) → last_of J lane ≡ Some r → is_in_lane lane r ≡ true
+pub last_in_lane : (J : List Record) (lane : ℕ) (r : Record) → last_of J lane ≡ Some r → tells_lane lane r ≡ true
 last_in_lane [] lane r e = absurd (let z : None ≡ Some r = e in cc)
 last_in_lane (q ∷ J) lane r e = step q J lane r e (λ g. last_in_lane J lane r g)
   where
     step : (q : Record) (J : List Record) (lane : ℕ) (r : Record) → last_of (q ∷ J) lane ≡ Some r
-        → (last_of J lane ≡ Some r → is_in_lane lane r ≡ true) → is_in_lane lane r ≡ true
-    step q J lane r e rest = elim (is_in_lane lane q) as
-        (λ c. is_in_lane lane q ≡ c → cond c (Some q) (last_of J lane) ≡ Some r → is_in_lane lane r ≡ true) [
-          | true ↦ λ l g. subst (λ a. is_in_lane lane a ≡ true) (some_is q r g) l
+        → (last_of J lane ≡ Some r → tells_lane lane r ≡ true) → tells_lane lane r ≡ true
+    step q J lane r e rest = elim (tells_lane lane q) as
+        (λ c. tells_lane lane q ≡ c → cond c (Some q) (last_of J lane) ≡ Some r → tells_lane lane r ≡ true) [
+          | true ↦ λ l g. subst (λ a. tells_lane lane a ≡ true) (some_is q r g) l
           | false ↦ λ l g. rest g
         ] refl e
 
 -- a record of the lane with the slot's number is of the batch
-of_number : (b : Batch) (r : Record) → (IsFirst r → ⊥) → is_in_lane b.lane r ≡ true → (slot_by b.lane (Some r)).number ≡ b.number → is_of b r ≡ true
+of_number : (b : Batch) (r : Record) → (IsFirst r → ⊥) → tells_lane b.lane r ≡ true → (slot_by b.lane (Some r)).number ≡ b.number → is_of b r ≡ true
 of_number b (Genesis header hs) later l n = l
 of_number b (Carry stamp header source hs numbers) later l n = absurd (later tt)
 of_number b (CarryStart stamp header source numbers) later l n = absurd (later tt)
@@ -121,13 +121,13 @@ last_is J b n = elim (last_of J b.lane) as (λ r. last_of J b.lane ≡ r → Las
 ] refl
   where
     of_later : (J : List Record) (b : Batch) (r : Record) → (IsFirst r → ⊥) → last_of J b.lane ≡ Some r → (slot_by b.lane (Some r)).number ≡ b.number
-        → is_in_lane b.lane r ≡ true → LastIs J b
+        → tells_lane b.lane r ≡ true → LastIs J b
     of_later J b r later e n l =
         of_kind (kind_of r) r (last_found J (kind_of r) b r e (own_test b r (of_number b r later l n))) (ap stamp_in e) refl
         (ap (λ s. s.phase) (slot_is J b.lane ∙ ap (slot_by b.lane) e))
 
     of_record : (J : List Record) (b : Batch) (r : Record) → last_of J b.lane ≡ Some r → (slot_by b.lane (Some r)).number ≡ b.number
-        → is_in_lane b.lane r ≡ true → LastIs J b
+        → tells_lane b.lane r ≡ true → LastIs J b
     of_record J b r e n l = elim (first_or_later r) [
       | inl first ↦ begun r first e (ap (λ s. s.phase) (slot_is J b.lane ∙ ap (slot_by b.lane) e) ∙ first_idle b.lane r first)
       | inr later ↦ of_later J b r later e n l

@@ -3,7 +3,7 @@ use Rattle.std.proofs.Common.{◌≡◌, ℕ, ◌*◌, ◌/◌, ◌%◌, ◌<◌
 use Rattle.std.proofs.Common.{arith, mul-lt-mul_of_pos_right, div-lt_iff_lt-mul, mod-lt, lit<}
 use Rattle.cbdc_model.specs.Outcomes.{won_txs}
 use Rattle.cbdc_model.specs.Ranges.{shard_of, first_byte}
-use Rattle.cbdc_model.specs.Records.{Digest, record_of, entries_in, outcomes_in, Batch, Compact, Record, lock_of, outcomes_of}
+use Rattle.cbdc_model.specs.Records.{Digest, Shape, record_of, entries_in, outcomes_in, Batch, Compact, Record, lock_of, outcomes_of}
 use Rattle.ledger_laws.proofs.Next.{has_lock, has_commit}
 
 pub not_true : (a : Bool) → (a ≡ true → ⊥) → a ≡ false
@@ -41,6 +41,6 @@ below_shards n shards lt h =
     let k : n * shards < shards * 256 = omega (arith, m) in
     (div-lt_iff_lt-mul {k = 256} {x = n * shards} {y = shards} (lit< tt)).1 k
 
-pub shard_of-lt : (shards : ℕ) (x : Digest) → 0 < shards → shard_of shards x < shards
+pub shard_of-lt : (K : Shape) (x : Digest) → 0 < K.shards → shard_of K x < K.shards
 unfolding shard_of first_byte
-shard_of-lt shards x h = below_shards (slice_index x 0 % 256) shards (mod-lt (slice_index x 0) {m = 256} (lit< tt)) h
+shard_of-lt K x h = below_shards (slice_index x 0 % 256) K.shards (mod-lt (slice_index x 0) {m = 256} (lit< tt)) h

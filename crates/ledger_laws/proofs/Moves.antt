@@ -83,7 +83,7 @@ caused_same K I J node (Seal stamp to shards) own same c = subst (λ o. IsStampe
 caused_same K I J node (Prepare stamp b txs) own same c = subst (λ o. IsStamped stamp o 0) own c
 caused_same K I J node (Lock stamp b es) own same c = (
   subst (λ r. is_some r ≡ true) same c.0,
-  (λ s at. c.1 s at ∙ ap (λ r. part K.shards s 0 (txs_in r)) same),
+  (λ s at. c.1 s at ∙ ap (λ r. part K s 0 (txs_in r)) same),
   c.2 ∙ (λ i. suc (max (last_stamp (own i)) (stamp_in (same i)))),
 )
 caused_same K I J node (Finish stamp b ds) own same c = (
@@ -132,14 +132,14 @@ module _ (K : Shape) (P : Compact → Type 0) (past : List Row) (st : Structure 
   ]
 
   pub concerned_lock : (s : ℕ) (c : Batch) → has_lock (journal (shard_node K s) past) c ≡ true
-      → is_no_part (part K.shards s 0 (txs_of (journal (c.lane / K.lanes) past) c)) ≡ false
+      → is_no_part (part K s 0 (txs_of (journal (c.lane / K.lanes) past) c)) ≡ false
   concerned_lock s c h = not_empty (lock_of (journal (shard_node K s) past) c) _ (st.lock_part s c h) ((more (shard_node K s)).lock_some c h)
 
   concerned_new : (r : Record) (node : ℕ) → Next K node (journal node past) r → IsCaused K (λ n. journal n past) node r → (s : ℕ)
       → node ≡ shard_node K s → (c : Batch)
-      → ((kind_of r == 2) && is_of c r) ≡ true → is_no_part (part K.shards s 0 (txs_of (journal (c.lane / K.lanes) past) c)) ≡ false
+      → ((kind_of r == 2) && is_of c r) ≡ true → is_no_part (part K s 0 (txs_of (journal (c.lane / K.lanes) past) c)) ≡ false
   concerned_new (Lock stamp b es) node next caused s e c h =
-      subst (λ d. is_no_part (part K.shards s 0 (txs_of (journal (d.lane / K.lanes) past) d)) ≡ false) (split_test 2 2 b c h).1
+      subst (λ d. is_no_part (part K s 0 (txs_of (journal (d.lane / K.lanes) past) d)) ≡ false) (split_test 2 2 b c h).1
       (not_empty es _ (caused.1 s e) next.5)
   concerned_new (Genesis header hs) node next caused s e c h = absurd next
   concerned_new (Carry stamp header source hs numbers) node next caused s e c h = absurd next

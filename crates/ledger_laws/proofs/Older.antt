@@ -213,7 +213,7 @@ module _ (K : Shape) (minting : Minted) (P : Compact → Type 0) (shards : 0 < K
     finished : has_finish J b ≡ true → Finished
     finished h =
         let f = finish_found J b h in
-        let g = standing K minting P shards later kept (shard_node K (shard_of K.shards x)) 3 b (Finish f.0 b f.1) f.2 in
+        let g = standing K minting P shards later kept (shard_node K (shard_of K x)) 3 b (Finish f.0 b f.1) f.2 in
         record {
           lock = g.1;
           decided_by = ap decisions_in f.2 ∙ g.2;
@@ -225,14 +225,13 @@ module _ (K : Shape) (minting : Minted) (P : Compact → Type 0) (shards : 0 < K
     made_earlier c n f e =
         let g : Finished = finished f in
         let part : IsPart x 0 (txs_of home b) (lock_of J b) =
-        is_part K.shards x 0 (txs_of home b) (lock_of J b)
-        ((all_structure K minting P shards later kept).lock_part (shard_of K.shards x) b g.lock) in
+        is_part K x 0 (txs_of home b) (lock_of J b) ((all_structure K minting P shards later kept).lock_part (shard_of K x) b g.lock) in
         let made : count x (made_outputs (lock_of J b) (decisions_in (record_of 3 J b))) ≡ count x (all_outputs (won_of K (whole later) b))
         = ap (λ ds. count x (made_outputs (lock_of J b) ds)) (g.decided_by ∙ decisions-decided (outcomes_of home b) (lock_of J b))
         ∙ count-made x (won_at (outcomes_of home b)) part
         ∙ ap (λ ts. count x (all_outputs ts)) (won_by-won_txs (won_at (outcomes_of home b)) 0 (txs_of home b) (outcomes_of home b)
         (λ i. ap (λ k. won_at (outcomes_of home b) k) (omega arith))) in
         let lt : stamp_in (record_of 3 J b) < stamp_in (record_of 2 J c) =
-        (all_older later kept x (shard_node K (shard_of K.shards x))).older b c e f (omega (arith, made)) in
+        (all_older later kept x (shard_node K (shard_of K x))).older b c e f (omega (arith, made)) in
         let first : stamp_in (record_of 7 home b) < stamp_in (record_of 3 J b) = g.later_than in
         (omega arith, lt)

@@ -5,26 +5,26 @@ use Rattle.cbdc_model.specs.After.{FitsReplies}
 use Rattle.cbdc_model.specs.History.{all_inputs, all_outputs}
 use Rattle.cbdc_model.specs.Outcomes.{won_at, won_txs, reply_at, outcome, outcome_by, outcomes}
 use Rattle.cbdc_model.specs.Ranges.{shard_of, on_shard, is_empty, part}
-use Rattle.cbdc_model.specs.Records.{Digest, same_digest, Compact, Entry, Reply, Outcome, Answered, is_held, is_won, Held, Missing, Taken}
+use Rattle.cbdc_model.specs.Records.{Digest, same_digest, Compact, Entry, Reply, Outcome, Answered, is_held, is_won, Held, Missing, Taken, Shape}
 use Rattle.cbdc_model.specs.Replies.{entries}
 use Rattle.cbdc_model.specs.Status.{held_inputs, taken_inputs, made_outputs, returned_inputs}
 use Rattle.ledger_laws.proofs.Counts.{count, count-append, digests, other_is_false}
 
 -- a shard has all of its own hashes
-on_shard_more : (shards : ℕ) (x y : Digest) (ys : List Digest) → count x (on_shard shards (shard_of shards x) ys) ≡ count x ys
-    → count x (on_shard shards (shard_of shards x) (y ∷ ys)) ≡ count x (y ∷ ys)
-on_shard_more shards x y ys h = elim (digests y x) [
-  | inl e ↦ same_here shards x y ys h e
+on_shard_more : (K : Shape) (x y : Digest) (ys : List Digest) → count x (on_shard K (shard_of K x) ys) ≡ count x ys
+    → count x (on_shard K (shard_of K x) (y ∷ ys)) ≡ count x (y ∷ ys)
+on_shard_more K x y ys h = elim (digests y x) [
+  | inl e ↦ same_here K x y ys h e
   | inr n ↦ let f : same_digest y x ≡ false = other_is_false y x n in grind arith
 ]
   where
-    same_here : (shards : ℕ) (x y : Digest) (ys : List Digest) → count x (on_shard shards (shard_of shards x) ys) ≡ count x ys → y ≡ x
-        → count x (on_shard shards (shard_of shards x) (y ∷ ys)) ≡ count x (y ∷ ys)
-    same_here shards x y ys h e = let s : shard_of shards y ≡ shard_of shards x = ap (shard_of shards) e in grind arith
+    same_here : (K : Shape) (x y : Digest) (ys : List Digest) → count x (on_shard K (shard_of K x) ys) ≡ count x ys → y ≡ x
+        → count x (on_shard K (shard_of K x) (y ∷ ys)) ≡ count x (y ∷ ys)
+    same_here K x y ys h e = let s : shard_of K y ≡ shard_of K x = ap (shard_of K) e in grind arith
 
-pub count-on_shard : (shards : ℕ) (x : Digest) (xs : List Digest) → count x (on_shard shards (shard_of shards x) xs) ≡ count x xs
-count-on_shard shards x [] = refl
-count-on_shard shards x (y ∷ ys) = on_shard_more shards x y ys (count-on_shard shards x ys)
+pub count-on_shard : (K : Shape) (x : Digest) (xs : List Digest) → count x (on_shard K (shard_of K x) xs) ≡ count x xs
+count-on_shard K x [] = refl
+count-on_shard K x (y ∷ ys) = on_shard_more K x y ys (count-on_shard K x ys)
 
 pub count-is_empty : (x : Digest) (xs : List Digest) → is_empty xs ≡ true → count x xs ≡ 0
 count-is_empty x [] h = refl
@@ -76,43 +76,43 @@ pub data IsPart (x : Digest) : ℕ → List Compact → List Answered → Type 0
       → count x a.entry.inputs ≡ count x t.inputs → count x a.entry.outputs ≡ count x t.outputs
       → IsPart x (suc k) ts es → IsPart x k (t ∷ ts) (a ∷ es)
 
-both_empty : (shards : ℕ) (x : Digest) (t : Compact)
-    → (is_empty (on_shard shards (shard_of shards x) t.inputs) && is_empty (on_shard shards (shard_of shards x) t.outputs)) ≡ true
+both_empty : (K : Shape) (x : Digest) (t : Compact)
+    → (is_empty (on_shard K (shard_of K x) t.inputs) && is_empty (on_shard K (shard_of K x) t.outputs)) ≡ true
     → (count x t.inputs ≡ 0) × (count x t.outputs ≡ 0)
-both_empty shards x t h = grind (
+both_empty K x t h = grind (
   arith,
-  count-on_shard shards x t.inputs,
-  count-on_shard shards x t.outputs,
-  count-is_empty x (on_shard shards (shard_of shards x) t.inputs),
-  count-is_empty x (on_shard shards (shard_of shards x) t.outputs),
+  count-on_shard K x t.inputs,
+  count-on_shard K x t.outputs,
+  count-is_empty x (on_shard K (shard_of K x) t.inputs),
+  count-is_empty x (on_shard K (shard_of K x) t.outputs),
 )
 
-abbrev pub part_entry : ℕ → ℕ → ℕ → Compact → Entry
-part_entry shards s k t = record { place = k; id = t.id; inputs = on_shard shards s t.inputs; outputs = on_shard shards s t.outputs }
+abbrev pub part_entry : Shape → ℕ → ℕ → Compact → Entry
+part_entry K s k t = record { place = k; id = t.id; inputs = on_shard K s t.inputs; outputs = on_shard K s t.outputs }
 
-takes_first : (shards : ℕ) (x : Digest) (k : ℕ) (t : Compact) (ts : List Compact) (es : List Answered) (rest : List Entry)
+takes_first : (K : Shape) (x : Digest) (k : ℕ) (t : Compact) (ts : List Compact) (es : List Answered) (rest : List Entry)
     → ((es : List Answered) → entries es ≡ rest → IsPart x (suc k) ts es)
-    → first_is (part_entry shards (shard_of shards x) k t) rest es → IsPart x k (t ∷ ts) es
-takes_first shards x k t ts [] rest next h = absurd h
-takes_first shards x k t ts (a ∷ es) rest next (same, more) =
+    → first_is (part_entry K (shard_of K x) k t) rest es → IsPart x k (t ∷ ts) es
+takes_first K x k t ts [] rest next h = absurd h
+takes_first K x k t ts (a ∷ es) rest next (same, more) =
     takes (ap (λ e. e.place) same)
-    (ap (λ e. count x e.inputs) same ∙ count-on_shard shards x t.inputs)
-    (ap (λ e. count x e.outputs) same ∙ count-on_shard shards x t.outputs)
+    (ap (λ e. count x e.inputs) same ∙ count-on_shard K x t.inputs)
+    (ap (λ e. count x e.outputs) same ∙ count-on_shard K x t.outputs)
     (next es more)
 
-pub is_part : (shards : ℕ) (x : Digest) (k : ℕ) (txs : List Compact) (es : List Answered)
-    → entries es ≡ part shards (shard_of shards x) k txs → IsPart x k txs es
-is_part shards x k [] es h = rw (entries-nil es h) no_more
-is_part shards x k (t ∷ ts) es h =
-    let s = shard_of shards x in
-    elim (is_empty (on_shard shards s t.inputs) && is_empty (on_shard shards s t.outputs))
-    as (λ c. (is_empty (on_shard shards s t.inputs) && is_empty (on_shard shards s t.outputs)) ≡ c
-    → entries es ≡ (if c then part shards s (suc k) ts else part_entry shards s k t ∷ part shards s (suc k) ts)
+pub is_part : (K : Shape) (x : Digest) (k : ℕ) (txs : List Compact) (es : List Answered)
+    → entries es ≡ part K (shard_of K x) k txs → IsPart x k txs es
+is_part K x k [] es h = rw (entries-nil es h) no_more
+is_part K x k (t ∷ ts) es h =
+    let s = shard_of K x in
+    elim (is_empty (on_shard K s t.inputs) && is_empty (on_shard K s t.outputs))
+    as (λ c. (is_empty (on_shard K s t.inputs) && is_empty (on_shard K s t.outputs)) ≡ c
+    → entries es ≡ (if c then part K s (suc k) ts else part_entry K s k t ∷ part K s (suc k) ts)
     → IsPart x k (t ∷ ts) es) [
-      | true ↦ λ none h. let z : (count x t.inputs ≡ 0) × (count x t.outputs ≡ 0) = both_empty shards x t none in
-          skips z.0 z.1 (is_part shards x (suc k) ts es h)
-      | false ↦ λ some h. takes_first shards x k t ts es (part shards s (suc k) ts)
-          (λ es h. is_part shards x (suc k) ts es h) (entries-cons _ _ es h)
+      | true ↦ λ none h. let z : (count x t.inputs ≡ 0) × (count x t.outputs ≡ 0) = both_empty K x t none in
+          skips z.0 z.1 (is_part K x (suc k) ts es h)
+      | false ↦ λ some h. takes_first K x k t ts es (part K s (suc k) ts)
+          (λ es h. is_part K x (suc k) ts es h) (entries-cons _ _ es h)
     ] refl h
 
 module _ (x : Digest) (f : ℕ → Bool) where

@@ -151,7 +151,7 @@ module _ (K : Shape) (P : Compact → Type 0) (id : Digest) (n : ℕ) (J : ℕ �
         next = (newer (last_stamp (J n)) c.cause, g.2, f.1, f.2, ap (λ p. answered (J n) c.batch [] p) (sym same), g.3.0);
         caused = (
           ap is_some stands.1,
-          (λ s e. same ∙ stands.2 s e ∙ ap (λ r. part K.shards s 0 (txs_in r)) (sym stands.1)),
+          (λ s e. same ∙ stands.2 s e ∙ ap (λ r. part K s 0 (txs_in r)) (sym stands.1)),
           ap (λ r. suc (max (last_stamp (J n)) (stamp_in r))) (sym stands.1),
         );
         passes = tt;

@@ -43,9 +43,9 @@ no_part (e ∷ es) h = cc
 
 -- a shard of a made hash has a part
 pub part_of_made : (K : Shape) (x : Digest) (txs : List Compact) (os : List Outcome) → 0 < count x (all_outputs (won_txs txs os))
-    → is_no_part (part K.shards (shard_of K.shards x) 0 txs) ≡ false
+    → is_no_part (part K (shard_of K x) 0 txs) ≡ false
 part_of_made K x txs os n = not_true _ (λ t.
-    let p : IsPart x 0 txs [] = is_part K.shards x 0 txs [] (sym (no_part (part K.shards (shard_of K.shards x) 0 txs) t)) in
+    let p : IsPart x 0 txs [] = is_part K x 0 txs [] (sym (no_part (part K (shard_of K x) 0 txs) t)) in
     let made : 0 ≡ count x (all_outputs (won_by (won_at os) 0 txs)) = count-made x (won_at os) p in
     let is : won_by (won_at os) 0 txs ≡ won_txs txs os = won_by-won_txs (won_at os) 0 txs os (λ i. ap (won_at os) (omega arith)) in
     let z : count x (all_outputs (won_by (won_at os) 0 txs)) ≡ count x (all_outputs (won_txs txs os)) = ap (λ ts. count x (all_outputs ts)) is in
@@ -164,18 +164,18 @@ module _ (K : Shape) (minting : Minted) (P : Compact → Type 0) (shards : 0 < K
     locked_is_finished : (x : Digest) (b : Batch) → has_lock (journal_at K (whole later) x) b ≡ true
         → has_finish (journal_at K (whole later) x) b ≡ true
     locked_is_finished x b h =
-        finished_at b ((all_structure K minting P shards later kept).lock_prepared (shard_node K (shard_of K.shards x)) b h) (shard_of K.shards x)
-        (shard_of-lt K.shards x shards, concerned_lock' (shard_of K.shards x) b h)
+        finished_at b ((all_structure K minting P shards later kept).lock_prepared (shard_node K (shard_of K x)) b h) (shard_of K x)
+        (shard_of-lt K x shards, concerned_lock' (shard_of K x) b h)
       where
         concerned_lock' : (s : ℕ) (b : Batch) → has_lock (journal (shard_node K s) (whole later)) b ≡ true
-            → is_no_part (part K.shards s 0 (txs_of (journal (b.lane / K.lanes) (whole later)) b)) ≡ false
+            → is_no_part (part K s 0 (txs_of (journal (b.lane / K.lanes) (whole later)) b)) ≡ false
         concerned_lock' s b h = not_empty_part s b ((all_structure K minting P shards later kept).lock_part s b h)
             ((all_more K minting P shards later kept (shard_node K s)).lock_some b h)
           where
             not_empty_part : (s : ℕ) (b : Batch) → entries (lock_of (journal (shard_node K s) (whole later)) b)
-                ≡ part K.shards s 0 (txs_of (journal (b.lane / K.lanes) (whole later)) b)
+                ≡ part K s 0 (txs_of (journal (b.lane / K.lanes) (whole later)) b)
                 → 0 < length (lock_of (journal (shard_node K s) (whole later)) b)
-                → is_no_part (part K.shards s 0 (txs_of (journal (b.lane / K.lanes) (whole later)) b)) ≡ false
+                → is_no_part (part K s 0 (txs_of (journal (b.lane / K.lanes) (whole later)) b)) ≡ false
             not_empty_part s b e n = not_empty (lock_of (journal (shard_node K s) (whole later)) b) _ e n
 
     pub none_locked : (x : Digest) (b : Batch) → Inv (λ x. count x minting.hashes) P (view K (whole later))
@@ -185,11 +185,11 @@ module _ (K : Shape) (minting : Minted) (P : Compact → Type 0) (shards : 0 < K
 
     pub none_coming : (x : Digest) (b : Batch) → 0 < count x (all_outputs (won_of K (whole later) b))
         → has_finish (journal_at K (whole later) x) b ≡ false → ⊥
-    none_coming x b n f = true_false _ (finished_at b prepared (shard_of K.shards x) (shard_of-lt K.shards x shards, some_part)) f
+    none_coming x b n f = true_false _ (finished_at b prepared (shard_of K x) (shard_of-lt K x shards, some_part)) f
       where
         prepared : has_prepare (journal (b.lane / K.lanes) (whole later)) b ≡ true
         prepared = won_prepared (journal (b.lane / K.lanes) (whole later)) x b (outcomes_of (journal (b.lane / K.lanes) (whole later)) b) n
 
-        some_part : is_no_part (part K.shards (shard_of K.shards x) 0 (txs_of (journal (b.lane / K.lanes) (whole later)) b)) ≡ false
+        some_part : is_no_part (part K (shard_of K x) 0 (txs_of (journal (b.lane / K.lanes) (whole later)) b)) ≡ false
         some_part = part_of_made K x (txs_of (journal (b.lane / K.lanes) (whole later)) b) (outcomes_of (journal (b.lane / K.lanes) (whole later)) b)
             n

@@ -231,8 +231,8 @@ kept_headline K mint txs J shards lanes clean k all_idle =
       issuance = f.issuance;
       value_kept = f.value_kept;
       unspent = λ x. (
-        λ u. (f.places x).1 (inl (ap (λ J. status J x) (k.history (shard_node K (shard_of K.shards x))) ∙ u)),
-        λ i. ap (λ J. status J x) (sym (k.history (shard_node K (shard_of K.shards x))))
+        λ u. (f.places x).1 (inl (ap (λ J. status J x) (k.history (shard_node K (shard_of K x))) ∙ u)),
+        λ i. ap (λ J. status J x) (sym (k.history (shard_node K (shard_of K x))))
             ∙ only_unspent K mint txs k.later shards k.kept idle inv x ((f.places x).0 i),
       );
       none_twice = subst (λ ts. NoneTwice ts) same (none_twice mint txs clean K (history_of K mint k.later) inv each forms);

@@ -45,21 +45,21 @@ rising_later : (k : ℕ) (es : List Answered) → Rising (suc k) es → Rising k
 rising_later k [] h = tt
 rising_later k (a ∷ es) h = (omega (arith, h.0), h.1)
 
-rising_first : (shards s k : ℕ) (t : Compact) (rest : List Entry) (es : List Answered)
+rising_first : (K : Shape) (s k : ℕ) (t : Compact) (rest : List Entry) (es : List Answered)
     → ((es : List Answered) → entries es ≡ rest → Rising (suc k) es)
-    → first_is (part_entry shards s k t) rest es → Rising k es
-rising_first shards s k t rest [] next h = absurd h
-rising_first shards s k t rest (a ∷ es) next (same, more) =
+    → first_is (part_entry K s k t) rest es → Rising k es
+rising_first K s k t rest [] next h = absurd h
+rising_first K s k t rest (a ∷ es) next (same, more) =
     let p : k ≡ a.entry.place = sym (ap (λ e. e.place) same) in
     (omega arith, subst (λ n. Rising (suc n) es) p (next es more))
 
-pub rising_part : (shards s k : ℕ) (txs : List Compact) (es : List Answered) → entries es ≡ part shards s k txs → Rising k es
-rising_part shards s k [] es h = subst (λ a. Rising k a) (sym (entries-nil es h)) tt
-rising_part shards s k (t ∷ ts) es h =
-    elim (is_empty (on_shard shards s t.inputs) && is_empty (on_shard shards s t.outputs))
-    as (λ c. entries es ≡ (if c then part shards s (suc k) ts else part_entry shards s k t ∷ part shards s (suc k) ts) → Rising k es) [
-      | true ↦ λ h. rising_later k es (rising_part shards s (suc k) ts es h)
-      | false ↦ λ h. rising_first shards s k t (part shards s (suc k) ts) es (λ es h. rising_part shards s (suc k) ts es h) (entries-cons _ _ es h)
+pub rising_part : (K : Shape) (s k : ℕ) (txs : List Compact) (es : List Answered) → entries es ≡ part K s k txs → Rising k es
+rising_part K s k [] es h = subst (λ a. Rising k a) (sym (entries-nil es h)) tt
+rising_part K s k (t ∷ ts) es h =
+    elim (is_empty (on_shard K s t.inputs) && is_empty (on_shard K s t.outputs))
+    as (λ c. entries es ≡ (if c then part K s (suc k) ts else part_entry K s k t ∷ part K s (suc k) ts) → Rising k es) [
+      | true ↦ λ h. rising_later k es (rising_part K s (suc k) ts es h)
+      | false ↦ λ h. rising_first K s k t (part K s (suc k) ts) es (λ es h. rising_part K s (suc k) ts es h) (entries-cons _ _ es h)
     ] h
 
 pub agrees_rising : (f : ℕ → Bool) (k : ℕ) (es : List Answered) → Rising k es
@@ -229,7 +229,7 @@ module _ (K : Shape) (minting : Minted) (P : Compact → Type 0) (shards : 0 < K
     -- a lock
     pub lock_answered : (b : Batch) (cause : ℕ) (txs : List Compact) → record_of 6 (J (b.lane / K.lanes)) b ≡ Some (Prepare cause b txs) → (s : ℕ)
         → s < K.shards
-        → LockAnswered (J (shard_node K s)) b (part K.shards s 0 txs) cause
+        → LockAnswered (J (shard_node K s)) b (part K s 0 txs) cause
     lock_answered b cause txs stands s below = elim (three_ways (slot (J (shard_node K s)) b.lane).number b.number) [
       | inl lt ↦ lock_appends lt (idle_at lt) (idle_older b cause txs stands s below lt (idle_at lt))
       | inr rest ↦ elim rest [
@@ -256,12 +256,12 @@ module _ (K : Shape) (minting : Minted) (P : Compact → Type 0) (shards : 0 < K
           | InDiscard ↦ λ p. absurd (no_discard s b.lane p)
         ] refl
 
-        same_part : has_lock (J (shard_node K s)) b ≡ true → entries (lock_of (J (shard_node K s)) b) ≡ part K.shards s 0 txs
-        same_part h = st.lock_part s b h ∙ ap (λ r. part K.shards s 0 (txs_in r)) stands
+        same_part : has_lock (J (shard_node K s)) b ≡ true → entries (lock_of (J (shard_node K s)) b) ≡ part K s 0 txs
+        same_part h = st.lock_part s b h ∙ ap (λ r. part K s 0 (txs_in r)) stands
 
-        at_number : (slot (J (shard_node K s)) b.lane).number ≡ b.number → LockAnswered (J (shard_node K s)) b (part K.shards s 0 txs) cause
+        at_number : (slot (J (shard_node K s)) b.lane).number ≡ b.number → LockAnswered (J (shard_node K s)) b (part K s 0 txs) cause
         at_number e = elim ((slot (J (shard_node K s)) b.lane).phase) as
-            (λ p. (slot (J (shard_node K s)) b.lane).phase ≡ p → LockAnswered (J (shard_node K s)) b (part K.shards s 0 txs) cause) [
+            (λ p. (slot (J (shard_node K s)) b.lane).phase ≡ p → LockAnswered (J (shard_node K s)) b (part K s 0 txs) cause) [
               | Idle ↦ λ p. lock_stale (inr (e, p))
               | InLock ↦ λ p. lock_stored e (same_part ((st.journals (shard_node K s)).locked b p e).0)
               | InFinish ↦ λ p. lock_stored e (same_part ((all_more K minting P shards later kept (shard_node K s)).in_finish b p e).0)
@@ -309,7 +309,7 @@ module _ (K : Shape) (minting : Minted) (P : Compact → Type 0) (shards : 0 < K
             → FitsReplies (lock_of (J (shard_node K s)) b) (decisions os (entries (lock_of (J (shard_node K s)) b)))
         fits facts locked = fits_decisions os (lock_of (J (shard_node K s)) b)
             (agrees_rising (won_at os) 0 (lock_of (J (shard_node K s)) b)
-            (rising_part K.shards s 0 (txs_of (J (b.lane / K.lanes)) b) (lock_of (J (shard_node K s)) b) (st.lock_part s b locked))
+            (rising_part K s 0 (txs_of (J (b.lane / K.lanes)) b) (lock_of (J (shard_node K s)) b) (st.lock_part s b locked))
             (λ j r le is won. outcome_held (λ k. entries_in (at_shards K J 2 b k)) (0 + j) 0 K.shards s r
             (won_at-outcomes (λ k. entries_in (at_shards K J 2 b k)) K.shards 0 (txs_of (J (b.lane / K.lanes)) b) j
             (subst (λ a. won_at a j ≡ true) facts.2 won))

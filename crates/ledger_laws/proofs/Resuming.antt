@@ -79,28 +79,28 @@ module _ (K : Shape) (minting : Minted) (P : Compact → Type 0) (shards : 0 < K
     not_past s lt = let le = shard_number K minting P shards later kept b.lane s in omega arith
 
     abbrev pub due_lock : ℕ → Record
-    due_lock s = Lock (suc (max (last_stamp (J (shard_node K s))) cause)) b (answered (J (shard_node K s)) b [] (part K.shards s 0 txs))
+    due_lock s = Lock (suc (max (last_stamp (J (shard_node K s))) cause)) b (answered (J (shard_node K s)) b [] (part K s 0 txs))
 
     pub lock_next : (s : ℕ) → Concerned K txs s → has_lock (J (shard_node K s)) b ≡ false → suc (max (last_stamp (J (shard_node K s))) cause) ≤ 2 ^ 62
         → IsDue K minting.id J (shard_node K s) (due_lock s)
     lock_next s c missing in_time = by_answer (lock_answered K minting P shards later kept b cause txs stands s c.0)
       where
-        same : entries (answered (J (shard_node K s)) b [] (part K.shards s 0 txs)) ≡ part K.shards s 0 txs
-        same = entries_answered (J (shard_node K s)) b (part K.shards s 0 txs) []
+        same : entries (answered (J (shard_node K s)) b [] (part K s 0 txs)) ≡ part K s 0 txs
+        same = entries_answered (J (shard_node K s)) b (part K s 0 txs) []
 
         fits : Fits K s (J (shard_node K s)) b its_grammar.1 (holders K minting P shards later kept (shard_node K s)) 0 K.batch (length txs)
-            (answered (J (shard_node K s)) b [] (part K.shards s 0 txs))
+            (answered (J (shard_node K s)) b [] (part K s 0 txs))
         fits = part_fits K s (J (shard_node K s)) b its_grammar.1 (holders K minting P shards later kept (shard_node K s)) [] 0 K.batch txs
             (recursion_from_All IsCompact txs its_grammar.4) (omega (arith, its_grammar.3))
 
-        some : 0 < length (answered (J (shard_node K s)) b [] (part K.shards s 0 txs))
-        some = some_entries (part K.shards s 0 txs) (answered (J (shard_node K s)) b [] (part K.shards s 0 txs)) same c.1
+        some : 0 < length (answered (J (shard_node K s)) b [] (part K s 0 txs))
+        some = some_entries (part K s 0 txs) (answered (J (shard_node K s)) b [] (part K s 0 txs)) same c.1
 
-        locked : entries (lock_of (J (shard_node K s)) b) ≡ part K.shards s 0 txs → ⊥
-        locked e = let n = some_entries (part K.shards s 0 txs) (lock_of (J (shard_node K s)) b) e c.1 in let z =
+        locked : entries (lock_of (J (shard_node K s)) b) ≡ part K s 0 txs → ⊥
+        locked e = let n = some_entries (part K s 0 txs) (lock_of (J (shard_node K s)) b) e c.1 in let z =
             ap (λ fs. length fs) (no_lock (J (shard_node K s)) b missing) in omega arith
 
-        by_answer : LockAnswered (J (shard_node K s)) b (part K.shards s 0 txs) cause → IsDue K minting.id J (shard_node K s) (due_lock s)
+        by_answer : LockAnswered (J (shard_node K s)) b (part K s 0 txs) cause → IsDue K minting.id J (shard_node K s) (due_lock s)
         by_answer (lock_stale (inl lt)) = absurd (not_past s lt)
         by_answer (lock_stale (inr (e, i))) = absurd
             (true_false _ (locked_here K minting P shards later kept s b
@@ -117,8 +117,8 @@ module _ (K : Shape) (minting : Minted) (P : Compact → Type 0) (shards : 0 < K
           );
           caused = (
             ap is_some stands,
-            (λ k e. same ∙ (let m : s ≡ k = omega arith in subst (λ m. part K.shards s 0 txs ≡ part K.shards m 0 txs) m refl)
-                ∙ ap (λ r. part K.shards k 0 (txs_in r)) (sym stands)),
+            (λ k e. same ∙ (let m : s ≡ k = omega arith in subst (λ m. part K s 0 txs ≡ part K m 0 txs) m refl)
+                ∙ ap (λ r. part K k 0 (txs_in r)) (sym stands)),
             ap (λ r. suc (max (last_stamp (J (shard_node K s))) (stamp_in r))) (sym stands),
           );
           grammar = (
@@ -127,7 +127,7 @@ module _ (K : Shape) (minting : Minted) (P : Compact → Type 0) (shards : 0 < K
             at_shard s c.0,
             (some, omega (arith, fits.size, its_grammar.3)),
             fits.rises,
-            All-from_recursion (IsEntry K (shard_node K s)) (answered (J (shard_node K s)) b [] (part K.shards s 0 txs)) fits.all,
+            All-from_recursion (IsEntry K (shard_node K s)) (answered (J (shard_node K s)) b [] (part K s 0 txs)) fits.all,
           );
         }
 

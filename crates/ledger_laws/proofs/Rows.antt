@@ -59,7 +59,7 @@ pub record Structure (K : Shape) (P : Compact → Type 0) (past : List Row) : Ty
   pub lock_prepared : (n : ℕ) (b : Batch) → has_lock (journal n past) b ≡ true → has_prepare (lane_journal K past b) b ≡ true
   pub finish_committed : (n : ℕ) (b : Batch) → has_finish (journal n past) b ≡ true → has_commit (lane_journal K past b) b ≡ true
   pub lock_part : (s : ℕ) (b : Batch) → has_lock (journal (shard_node K s) past) b ≡ true
-      → entries (lock_of (journal (shard_node K s) past) b) ≡ part K.shards s 0 (txs_of (lane_journal K past b) b)
+      → entries (lock_of (journal (shard_node K s) past) b) ≡ part K s 0 (txs_of (lane_journal K past b) b)
   pub proper : (b : Batch) → Each P (txs_of (lane_journal K past b) b)
 
 -- the rows of these kinds leave the view alone
@@ -76,18 +76,17 @@ module _ (K : Shape) (past : List Row) (row : Row)
 
     pub same_view : view K (row ∷ past) ≡ view K past
     same_view = λ i. record {
-      status = λ x. unchanged (λ J. status J x) (shard_node K (shard_of K.shards x)) row past
-          (same_status (journal (shard_node K (shard_of K.shards x)) past) x) i;
-      arrived = λ x. unchanged (λ J. arrived J x) (shard_node K (shard_of K.shards x)) row past
-          (same_arrived (journal (shard_node K (shard_of K.shards x)) past) x) i;
+      status = λ x. unchanged (λ J. status J x) (shard_node K (shard_of K x)) row past (same_status (journal (shard_node K (shard_of K x)) past) x) i;
+      arrived = λ x. unchanged (λ J. arrived J x) (shard_node K (shard_of K x)) row past
+          (same_arrived (journal (shard_node K (shard_of K x)) past) x) i;
       spent = λ x. count x (all_inputs (same_committed i));
       made = λ x. count x (all_outputs (same_committed i));
       takes = λ b x. count x (all_inputs (same_won b i));
       makes = λ b x. count x (all_outputs (same_won b i));
-      finished = λ b x. unchanged (λ J. has_finish J b) (shard_node K (shard_of K.shards x)) row past
-          (same_finish (journal (shard_node K (shard_of K.shards x)) past) b) i;
-      holds = λ b x. count x (held_inputs (unchanged (λ J. lock_of J b) (shard_node K (shard_of K.shards x)) row past
-          (same_lock (journal (shard_node K (shard_of K.shards x)) past) b) i));
+      finished = λ b x. unchanged (λ J. has_finish J b) (shard_node K (shard_of K x)) row past
+          (same_finish (journal (shard_node K (shard_of K x)) past) b) i;
+      holds = λ b x. count x (held_inputs (unchanged (λ J. lock_of J b) (shard_node K (shard_of K x)) row past
+          (same_lock (journal (shard_node K (shard_of K x)) past) b) i));
     }
 
 -- and so do those that no question about a journal looks at

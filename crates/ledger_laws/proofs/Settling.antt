@@ -2,7 +2,7 @@
 use Rattle.std.proofs.Common.{◌≡◌, ℕ, ◌/◌, ◌<◌, ◌≤◌, true, false, ◌&&◌, ◌==◌, List, ◌++◌, Some, None, is_some, refl, sym, ap, ◌∙◌, subst, arith}
 use Rattle.cbdc_model.specs.History.{first_rows, Minted, minted}
 use Rattle.cbdc_model.specs.Ranges.{shard_node}
-use Rattle.cbdc_model.specs.Records.{Shape, Batch, same_batch, Compact, Record, Row, journal, record_of, stamp_of, stamp_in, last_stamp, is_in_lane}
+use Rattle.cbdc_model.specs.Records.{Shape, Batch, same_batch, Compact, Record, Row, journal, record_of, stamp_of, stamp_in, last_stamp, tells_lane}
 use Rattle.cbdc_model.specs.Records.{Genesis, Lock, Finish, Forget, Start, Prepare, Commit, Discard, Done, lock_of, Upgrade, Carry, CarryStart, Seal}
 use Rattle.cbdc_model.specs.Slots.{slot, slot_stamp, Idle, InLock, InFinish, InPrepare, InCommit, InDiscard}
 use Rattle.ledger_laws.proofs.Next.{has_lock, has_finish, has_forget, has_prepare, Steady}
@@ -82,7 +82,7 @@ module _ (K : Shape) (minting : Minted) (P : Compact → Type 0) (shards : 0 < K
       itself c = same_batch_self c
 
       of_record : (r : Record) → (slot (J (shard_node K s)) lane).number ≡ (slot_by lane (Some r)).number
-          → last_of (J (shard_node K s)) lane ≡ Some r → is_in_lane lane r ≡ true
+          → last_of (J (shard_node K s)) lane ≡ Some r → tells_lane lane r ≡ true
           → (slot (J (shard_node K s)) lane).number ≤ (slot (J (lane / K.lanes)) lane).number
       of_record (Genesis header hs) n e l = absurd (let z : false ≡ true = l in cc)
       of_record (Start header) n e l = absurd (let z : false ≡ true = l in cc)
@@ -155,7 +155,7 @@ module _ (K : Shape) (minting : Minted) (P : Compact → Type 0) (shards : 0 < K
           → ((kind == kind) && same_batch c (record { lane = lane; number = n })) ≡ true
       test kind n c l e = grind (arith, l, e)
 
-      of_record : (r : Record) → (slot_by lane (Some r)).phase ≡ Idle → last_of (J (shard_node K s)) lane ≡ Some r → is_in_lane lane r ≡ true
+      of_record : (r : Record) → (slot_by lane (Some r)).phase ≡ Idle → last_of (J (shard_node K s)) lane ≡ Some r → tells_lane lane r ≡ true
           → stamp_of r ≤ last_stamp (J (lane / K.lanes))
       of_record (Genesis header hs) i e l = absurd (let z : false ≡ true = l in cc)
       of_record (Start header) i e l = absurd (let z : false ≡ true = l in cc)

@@ -34,7 +34,7 @@ Facts K J node (Seal stamp to shards) = Unit {0}
 Facts K J node (Prepare stamp b txs) = 0 < stamp
 Facts K J node (Lock stamp b es) =
     let cause = record_of 6 (J (b.lane / K.lanes)) b in
-    (is_some cause ≡ true) × ((s : ℕ) → node ≡ shard_node K s → entries es ≡ part K.shards s 0 (txs_in cause)) × (stamp_in cause < stamp)
+    (is_some cause ≡ true) × ((s : ℕ) → node ≡ shard_node K s → entries es ≡ part K s 0 (txs_in cause)) × (stamp_in cause < stamp)
 Facts K J node (Finish stamp b ds) =
     let cause = record_of 7 (J (b.lane / K.lanes)) b in
     let lock = record_of 2 (J node) b in
@@ -106,7 +106,7 @@ module _ (K : Shape) (P : Compact → Type 0) (past : List Row) (st : Structure 
   facts_stay node (Prepare stamp b txs) f = f
   facts_stay node (Lock stamp b es) f =
       let e = keep 6 (b.lane / K.lanes) b f.0 in
-      (subst (λ r. is_some r ≡ true) e f.0, (λ s at. f.1 s at ∙ ap (λ r. part K.shards s 0 (txs_in r)) e), subst (λ r. stamp_in r < stamp) e f.2)
+      (subst (λ r. is_some r ≡ true) e f.0, (λ s at. f.1 s at ∙ ap (λ r. part K s 0 (txs_in r)) e), subst (λ r. stamp_in r < stamp) e f.2)
   facts_stay node (Finish stamp b ds) f =
       let e = keep 7 (b.lane / K.lanes) b f.0 in
       let l = keep 2 node b f.1 in (

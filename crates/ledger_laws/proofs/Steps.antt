@@ -64,15 +64,15 @@ module _ (K : Shape) (P : Compact → Type 0) (past : List Row) (st : Structure 
   module _ (f : ℕ → ℕ) (f_none : f 0 ≡ 0) (f_some : (n : ℕ) → 0 < f n → 0 < n) (f_zero : (n : ℕ) → f n ≡ 0 → n ≡ 0) (node stamp : ℕ) (b : Batch)
       (es : List Answered)
       (next : Next K node (journal node past) (Lock stamp b es))
-      (once : (x : Digest) → node ≡ shard_node K (shard_of K.shards x) → f (count x (held_inputs es)) ≤ 1) where
+      (once : (x : Digest) → node ≡ shard_node K (shard_of K x) → f (count x (held_inputs es)) ≤ 1) where
     pub held_now : Digest → ℕ
-    held_now x = if node == shard_node K (shard_of K.shards x) then f (count x (held_inputs es)) else 0
+    held_now x = if node == shard_node K (shard_of K x) then f (count x (held_inputs es)) else 0
 
-    now_at : (x : Digest) → node ≡ shard_node K (shard_of K.shards x) → held_now x ≡ f (count x (held_inputs es))
+    now_at : (x : Digest) → node ≡ shard_node K (shard_of K x) → held_now x ≡ f (count x (held_inputs es))
     unfolding held_now
-    now_at x e = let t : (node == shard_node K (shard_of K.shards x)) ≡ true = grind arith in rw t
+    now_at x e = let t : (node == shard_node K (shard_of K x)) ≡ true = grind arith in rw t
 
-    now_away : (x : Digest) → (node == shard_node K (shard_of K.shards x)) ≡ false → held_now x ≡ 0
+    now_away : (x : Digest) → (node == shard_node K (shard_of K x)) ≡ false → held_now x ≡ 0
     unfolding held_now
     now_away x e = rw e
 
@@ -97,23 +97,23 @@ module _ (K : Shape) (P : Compact → Type 0) (past : List Row) (st : Structure 
     -- the hash's journal, with the Lock or as it was
     module _ (x : Digest) where
       lock_was : 0 < held_now x → status (journal_at K past x) x ≡ Unspent
-      lock_was h = elim (at_node node (shard_node K (shard_of K.shards x))) [
+      lock_was h = elim (at_node node (shard_node K (shard_of K x))) [
         | at e ↦ subst (λ n. status (journal n past) x ≡ Unspent) e (es_held x (f_some _ (omega (arith, now_at x e))))
         | away e ↦ absurd (omega (arith, now_away x e))
       ]
 
       lock_once : held_now x ≤ 1
-      lock_once = elim (at_node node (shard_node K (shard_of K.shards x))) [
+      lock_once = elim (at_node node (shard_node K (shard_of K x))) [
         | at e ↦ omega (arith, now_at x e, once x e)
         | away e ↦ omega (arith, now_away x e)
       ]
 
-      none_before : node ≡ shard_node K (shard_of K.shards x) → f (count x (held_inputs (lock_of (journal_at K past x) b))) ≡ 0
+      none_before : node ≡ shard_node K (shard_of K x) → f (count x (held_inputs (lock_of (journal_at K past x) b))) ≡ 0
       none_before e = ap (λ a. f (count x (held_inputs a)))
           (no_lock (journal_at K past x) b (subst (λ n. has_lock (journal n past) b ≡ false) e unlocked)) ∙ f_none
 
       lock_fresh : 0 < held_now x → (has_finish (journal_at K past x) b ≡ false) × (f (count x (held_inputs (lock_of (journal_at K past x) b))) ≡ 0)
-      lock_fresh h = elim (at_node node (shard_node K (shard_of K.shards x))) [
+      lock_fresh h = elim (at_node node (shard_node K (shard_of K x))) [
         | at e ↦ (subst (λ n. has_finish (journal n past) b ≡ false) e unfinished, none_before e)
         | away e ↦ absurd (omega (arith, now_away x e))
       ]
@@ -122,7 +122,7 @@ module _ (K : Shape) (P : Compact → Type 0) (past : List Row) (st : Structure 
       lock_status h = rw (count-has x (held_inputs es) h)
 
       lock_locked : 0 < held_now x → status (journal_at K (record { node = node; what = Lock stamp b es } ∷ past) x) x ≡ Locked b
-      lock_locked h = elim (at_node node (shard_node K (shard_of K.shards x))) [
+      lock_locked h = elim (at_node node (shard_node K (shard_of K x))) [
         | at e ↦ ap (λ J. status J x) (head_at (record { node = node; what = Lock stamp b es }) past _ e)
             ∙ lock_status (f_some _ (omega (arith, now_at x e)))
         | away e ↦ absurd (omega (arith, now_away x e))
@@ -133,7 +133,7 @@ module _ (K : Shape) (P : Compact → Type 0) (past : List Row) (st : Structure 
 
       lock_others : held_now x ≡ 0 → status (journal_at K (record { node = node; what = Lock stamp b es } ∷ past) x) x
           ≡ status (journal_at K past x) x
-      lock_others z = elim (at_node node (shard_node K (shard_of K.shards x))) [
+      lock_others z = elim (at_node node (shard_node K (shard_of K x))) [
         | at e ↦ ap (λ J. status J x) (head_at (record { node = node; what = Lock stamp b es }) past _ e)
             ∙ lock_not_named (f_zero _ (sym (now_at x e) ∙ z))
         | away e ↦ ap (λ J. status J x) (head_away (record { node = node; what = Lock stamp b es }) past _ e)
@@ -141,7 +141,7 @@ module _ (K : Shape) (P : Compact → Type 0) (past : List Row) (st : Structure 
 
       lock_holds : f (count x (held_inputs (lock_of (journal_at K (record { node = node; what = Lock stamp b es } ∷ past) x) b)))
           ≡ f (count x (held_inputs (lock_of (journal_at K past x) b))) + held_now x
-      lock_holds = elim (at_node node (shard_node K (shard_of K.shards x))) [
+      lock_holds = elim (at_node node (shard_node K (shard_of K x))) [
         | at e ↦
             let now : f (count x (held_inputs (lock_of (journal_at K (record { node = node; what = Lock stamp b es } ∷ past) x) b)))
             ≡ f (count x (held_inputs es))
@@ -159,7 +159,7 @@ module _ (K : Shape) (P : Compact → Type 0) (past : List Row) (st : Structure 
           → f (count x (held_inputs (lock_of (journal_at K (record { node = node; what = Lock stamp b es } ∷ past) x) c)))
           ≡ f (count x (held_inputs (lock_of (journal_at K past x) c)))
       lock_other_batches c o = ap (λ a. f (count x (held_inputs a)))
-          (unchanged (λ J. lock_of J c) (shard_node K (shard_of K.shards x)) (record { node = node; what = Lock stamp b es }) past
+          (unchanged (λ J. lock_of J c) (shard_node K (shard_of K x)) (record { node = node; what = Lock stamp b es }) past
           (lock_of_behind c (journal_at K past x) o))
 
     pub lock_measured : Locks (measured f (view K past)) (measured f (view K (record { node = node; what = Lock stamp b es } ∷ past))) b held_now
@@ -171,7 +171,7 @@ module _ (K : Shape) (P : Compact → Type 0) (past : List Row) (st : Structure 
       others = lock_others;
       holds = lock_holds;
       other_batches = λ c x o. lock_other_batches x c o;
-      arrived = λ x. unchanged (λ J. arrived J x) (shard_node K (shard_of K.shards x)) (record { node = node; what = Lock stamp b es }) past refl;
+      arrived = λ x. unchanged (λ J. arrived J x) (shard_node K (shard_of K x)) (record { node = node; what = Lock stamp b es }) past refl;
       spent = λ x. ap (λ ts. count x (all_inputs ts)) (append-nil (committed past));
       made = λ x. ap (λ ts. count x (all_outputs ts)) (append-nil (committed past));
       takes = λ c x i. count x (all_inputs (won_txs
@@ -180,39 +180,38 @@ module _ (K : Shape) (P : Compact → Type 0) (past : List Row) (st : Structure 
       makes = λ c x i. count x (all_outputs (won_txs
           (unchanged (λ J. txs_of J c) (c.lane / K.lanes) (record { node = node; what = Lock stamp b es }) past refl i)
           (unchanged (λ J. outcomes_of J c) (c.lane / K.lanes) (record { node = node; what = Lock stamp b es }) past refl i)));
-      finished = λ c x. unchanged (λ J. has_finish J c) (shard_node K (shard_of K.shards x)) (record { node = node; what = Lock stamp b es }) past
-          refl;
+      finished = λ c x. unchanged (λ J. has_finish J c) (shard_node K (shard_of K x)) (record { node = node; what = Lock stamp b es }) past refl;
     }
 
   -- the count itself, where each entry's inputs are apart
   module _ {hashes : Digest → ℕ} (apart : Apart hashes P) (node stamp : ℕ) (b : Batch) (es : List Answered)
       (next : Next K node (journal node past) (Lock stamp b es)) (caused : IsCaused K (λ n. journal n past) node (Lock stamp b es)) where
-    count-on_shard-le : (shards s : ℕ) (x : Digest) (xs : List Digest) → count x (on_shard shards s xs) ≤ count x xs
-    count-on_shard-le shards s x [] = omega arith
-    count-on_shard-le shards s x (y ∷ ys) = on_more shards s x y ys (count-on_shard-le shards s x ys)
+    count-on_shard-le : (K : Shape) (s : ℕ) (x : Digest) (xs : List Digest) → count x (on_shard K s xs) ≤ count x xs
+    count-on_shard-le K s x [] = omega arith
+    count-on_shard-le K s x (y ∷ ys) = on_more K s x y ys (count-on_shard-le K s x ys)
       where
-        on_more : (shards s : ℕ) (x y : Digest) (ys : List Digest) → count x (on_shard shards s ys) ≤ count x ys
-            → count x (on_shard shards s (y ∷ ys)) ≤ count x (y ∷ ys)
-        on_more shards s x y ys h = grind arith
+        on_more : (K : Shape) (s : ℕ) (x y : Digest) (ys : List Digest) → count x (on_shard K s ys) ≤ count x ys
+            → count x (on_shard K s (y ∷ ys)) ≤ count x (y ∷ ys)
+        on_more K s x y ys h = grind arith
 
-    each_once : (shards s k : ℕ) (x : Digest) (txs : List Compact) → Each P txs → EachOnce x (part shards s k txs)
-    each_once shards s k x [] each = tt
-    each_once shards s k x (t ∷ ts) each =
-        elim (is_empty (on_shard shards s t.inputs) && is_empty (on_shard shards s t.outputs))
-        as (λ c. EachOnce x (if c then part shards s (suc k) ts else
-        record { place = k; id = t.id; inputs = on_shard shards s t.inputs; outputs = on_shard shards s t.outputs } ∷ part shards s (suc k) ts)) [
-          | true ↦ each_once shards s (suc k) x ts each.1
-          | false ↦ (omega (arith, count-on_shard-le shards s x t.inputs, apart.inputs_once t x each.0), each_once shards s (suc k) x ts each.1)
+    each_once : (K : Shape) (s k : ℕ) (x : Digest) (txs : List Compact) → Each P txs → EachOnce x (part K s k txs)
+    each_once K s k x [] each = tt
+    each_once K s k x (t ∷ ts) each =
+        elim (is_empty (on_shard K s t.inputs) && is_empty (on_shard K s t.outputs))
+        as (λ c. EachOnce x (if c then part K s (suc k) ts else
+        record { place = k; id = t.id; inputs = on_shard K s t.inputs; outputs = on_shard K s t.outputs } ∷ part K s (suc k) ts)) [
+          | true ↦ each_once K s (suc k) x ts each.1
+          | false ↦ (omega (arith, count-on_shard-le K s x t.inputs, apart.inputs_once t x each.0), each_once K s (suc k) x ts each.1)
         ]
 
     es_once : (x : Digest) (s : ℕ) → node ≡ shard_node K s → count x (held_inputs es) ≤ 1
     es_once x s is = subst (λ a. count x (held_inputs a) ≤ 1) (sym next.4) (answered_once (journal node past) b [] (entries es) x
-        (subst (λ p. EachOnce x p) (sym (caused.1 s is)) (each_once K.shards s 0 x (txs_of (lane_journal K past b) b) (st.proper b))))
+        (subst (λ p. EachOnce x p) (sym (caused.1 s is)) (each_once K s 0 x (txs_of (lane_journal K past b) b) (st.proper b))))
 
     pub lock_changes : (held : Digest → ℕ) × Locks (view K past) (view K (record { node = node; what = Lock stamp b es } ∷ past)) b held
     lock_changes = (
-      held_now (λ n. n) refl (λ n h. h) (λ n e. e) node stamp b es next (λ x e. es_once x (shard_of K.shards x) e),
-      lock_measured (λ n. n) refl (λ n h. h) (λ n e. e) node stamp b es next (λ x e. es_once x (shard_of K.shards x) e),
+      held_now (λ n. n) refl (λ n h. h) (λ n e. e) node stamp b es next (λ x e. es_once x (shard_of K x) e),
+      lock_measured (λ n. n) refl (λ n h. h) (λ n e. e) node stamp b es next (λ x e. es_once x (shard_of K x) e),
     )
 
   -- Commit
@@ -237,22 +236,22 @@ module _ (K : Shape) (P : Compact → Type 0) (past : List Row) (st : Structure 
     no_part [] h = refl
     no_part (e ∷ es) h = cc
 
-    lock_is_part : (x : Digest) → entries (lock_of (journal_at K past x) b) ≡ part K.shards (shard_of K.shards x) 0 (txs_of (lane_journal K past b) b)
+    lock_is_part : (x : Digest) → entries (lock_of (journal_at K past x) b) ≡ part K (shard_of K x) 0 (txs_of (lane_journal K past b) b)
     lock_is_part x =
-        let s = shard_of K.shards x in
+        let s = shard_of K x in
         elim (has_lock (journal_at K past x) b) as (λ c. has_lock (journal_at K past x) b ≡ c
-        → entries (lock_of (journal_at K past x) b) ≡ part K.shards (shard_of K.shards x) 0 (txs_of (lane_journal K past b) b)) [
-          | true ↦ λ h. st.lock_part (shard_of K.shards x) b h
+        → entries (lock_of (journal_at K past x) b) ≡ part K (shard_of K x) 0 (txs_of (lane_journal K past b) b)) [
+          | true ↦ λ h. st.lock_part (shard_of K x) b h
           | false ↦ λ h. ap entries (no_lock (journal_at K past x) b h)
-              ∙ sym (no_part (part K.shards (shard_of K.shards x) 0 (txs_of (lane_journal K past b) b)) (unconcerned x h))
+              ∙ sym (no_part (part K (shard_of K x) 0 (txs_of (lane_journal K past b) b)) (unconcerned x h))
         ] refl
       where
         unconcerned : (x : Digest) → has_lock (journal_at K past x) b ≡ false
-            → is_no_part (part K.shards (shard_of K.shards x) 0 (txs_of (lane_journal K past b) b)) ≡ true
-        unconcerned x h = elim (is_no_part (part K.shards (shard_of K.shards x) 0 (txs_of (lane_journal K past b) b)))
-            as (λ c. is_no_part (part K.shards (shard_of K.shards x) 0 (txs_of (lane_journal K past b) b)) ≡ c → c ≡ true) [
+            → is_no_part (part K (shard_of K x) 0 (txs_of (lane_journal K past b) b)) ≡ true
+        unconcerned x h = elim (is_no_part (part K (shard_of K x) 0 (txs_of (lane_journal K past b) b)))
+            as (λ c. is_no_part (part K (shard_of K x) 0 (txs_of (lane_journal K past b) b)) ≡ c → c ≡ true) [
               | true ↦ λ _. refl
-              | false ↦ λ e. absurd (true_false _ (caused.0 (shard_of K.shards x) (shard_of-lt K.shards x shards, e)) h)
+              | false ↦ λ e. absurd (true_false _ (caused.0 (shard_of K x) (shard_of-lt K x shards, e)) h)
             ] refl
 
     newly_is : (x : Digest) → won_by (won_at os) 0 (txs_of (lane_journal K past b) b) ≡ newly
@@ -262,15 +261,15 @@ module _ (K : Shape) (P : Compact → Type 0) (past : List Row) (st : Structure 
     won_is_held : (x : Digest) (j : ℕ) (r : Reply) → 0 ≤ j → reply_at (lock_of (journal_at K past x) b) j ≡ Some r → won_at os j ≡ true
         → is_held r ≡ true
     won_is_held x j r le is won =
-        outcome_held (locks_at K past b) (0 + j) 0 K.shards (shard_of K.shards x) r
+        outcome_held (locks_at K past b) (0 + j) 0 K.shards (shard_of K x) r
         (won_at-outcomes (locks_at K past b) K.shards 0 (txs_of (lane_journal K past b) b) j (subst (λ os. won_at os j ≡ true) caused.1 won))
-        (omega arith) (omega (arith, shard_of-lt K.shards x shards))
+        (omega arith) (omega (arith, shard_of-lt K x shards))
         (subst (λ k. reply_at (lock_of (journal_at K past x) b) k ≡ Some r) (omega arith) is)
 
     newly_held_there : (x : Digest) → count x (all_inputs newly) ≤ count x (held_inputs (lock_of (journal_at K past x) b))
     newly_held_there x =
         let p : IsPart x 0 (txs_of (lane_journal K past b) b) (lock_of (journal_at K past x) b)
-        = is_part K.shards x 0 (txs_of (lane_journal K past b) b) (lock_of (journal_at K past x) b) (lock_is_part x) in
+        = is_part K x 0 (txs_of (lane_journal K past b) b) (lock_of (journal_at K past x) b) (lock_is_part x) in
         subst (λ ts. count x (all_inputs ts) ≤ count x (held_inputs (lock_of (journal_at K past x) b))) (newly_is x)
         (won-le-held x (won_at os) p (agrees x (won_at os) p (won_is_held x)))
 
@@ -320,7 +319,7 @@ module _ (K : Shape) (P : Compact → Type 0) (past : List Row) (st : Structure 
     commit_changes = record {
       each = each_won (txs_of (journal node past) b) os (subst (λ n. Each P (txs_of (journal n past) b)) (sym next.2) (st.proper b));
       held = newly_held_there;
-      unfinished = λ x. no_finish b uncommitted (shard_node K (shard_of K.shards x));
+      unfinished = λ x. no_finish b uncommitted (shard_node K (shard_of K x));
       took_none = λ x. ap (λ ts. count x (all_inputs ts)) won_before;
       made_none = λ x. ap (λ ts. count x (all_outputs ts)) won_before;
       spent = λ x. all_inputs-append x (committed past) newly;
@@ -329,12 +328,11 @@ module _ (K : Shape) (P : Compact → Type 0) (past : List Row) (st : Structure 
       makes = λ x. ap (λ ts. count x (all_outputs ts)) won_new;
       other_takes = λ c x o. ap (λ ts. count x (all_inputs ts)) (won_other c o);
       other_makes = λ c x o. ap (λ ts. count x (all_outputs ts)) (won_other c o);
-      status = λ x. unchanged (λ J. status J x) (shard_node K (shard_of K.shards x)) (record { node = node; what = Commit stamp b os }) past refl;
-      arrived = λ x. unchanged (λ J. arrived J x) (shard_node K (shard_of K.shards x)) (record { node = node; what = Commit stamp b os }) past refl;
-      finished = λ c x. unchanged (λ J. has_finish J c) (shard_node K (shard_of K.shards x)) (record { node = node; what = Commit stamp b os }) past
-          refl;
+      status = λ x. unchanged (λ J. status J x) (shard_node K (shard_of K x)) (record { node = node; what = Commit stamp b os }) past refl;
+      arrived = λ x. unchanged (λ J. arrived J x) (shard_node K (shard_of K x)) (record { node = node; what = Commit stamp b os }) past refl;
+      finished = λ c x. unchanged (λ J. has_finish J c) (shard_node K (shard_of K x)) (record { node = node; what = Commit stamp b os }) past refl;
       holds = λ c x. ap (λ a. count x (held_inputs a))
-          (unchanged (λ J. lock_of J c) (shard_node K (shard_of K.shards x)) (record { node = node; what = Commit stamp b os }) past refl);
+          (unchanged (λ J. lock_of J c) (shard_node K (shard_of K x)) (record { node = node; what = Commit stamp b os }) past refl);
     }
 
   -- Finish
@@ -387,16 +385,15 @@ module _ (K : Shape) (P : Compact → Type 0) (past : List Row) (st : Structure 
     finish_behind c J o = rw o
 
     -- at a hash of this shard
-    module _ (x : Digest) (at_here : node ≡ shard_node K (shard_of K.shards x)) where
+    module _ (x : Digest) (at_here : node ≡ shard_node K (shard_of K x)) where
       head : journal_at K (record { node = node; what = Finish stamp b ds } ∷ past) x ≡ Finish stamp b ds ∷ journal_at K past x
-      head = head_at (record { node = node; what = Finish stamp b ds }) past (shard_node K (shard_of K.shards x)) at_here
+      head = head_at (record { node = node; what = Finish stamp b ds }) past (shard_node K (shard_of K x)) at_here
 
       is_locked : has_lock (journal_at K past x) b ≡ true
       is_locked = subst (λ n. has_lock (journal n past) b ≡ true) at_here slot_facts.0
 
       part_here : IsPart x 0 (txs_of (lane_journal K past b) b) (lock_of (journal_at K past x) b)
-      part_here = is_part K.shards x 0 (txs_of (lane_journal K past b) b) (lock_of (journal_at K past x) b)
-          (st.lock_part (shard_of K.shards x) b is_locked)
+      part_here = is_part K x 0 (txs_of (lane_journal K past b) b) (lock_of (journal_at K past x) b) (st.lock_part (shard_of K x) b is_locked)
 
       ds_is : ds ≡ decided (won_at (outcomes_of (lane_journal K past b) b)) (lock_of (journal_at K past x) b)
       ds_is = subst (λ n. ds ≡ decisions (outcomes_of (lane_journal K past b) b) (entries (lock_of (journal n past) b))) at_here caused.1
@@ -431,16 +428,16 @@ module _ (K : Shape) (P : Compact → Type 0) (past : List Row) (st : Structure 
 
     pub finish_changes : Finishes (view K past) (view K (record { node = node; what = Finish stamp b ds } ∷ past)) b
     finish_changes = record {
-      at = λ x. elim (at_node node (shard_node K (shard_of K.shards x))) [
+      at = λ x. elim (at_node node (shard_node K (shard_of K x))) [
         | at e ↦ here _ _ _ (finishes_here x e)
         | away e ↦ elsewhere (record {
-          status = ap (λ J. status J x) (head_away (record { node = node; what = Finish stamp b ds }) past (shard_node K (shard_of K.shards x)) e);
-          arrived = ap (λ J. arrived J x) (head_away (record { node = node; what = Finish stamp b ds }) past (shard_node K (shard_of K.shards x)) e);
+          status = ap (λ J. status J x) (head_away (record { node = node; what = Finish stamp b ds }) past (shard_node K (shard_of K x)) e);
+          arrived = ap (λ J. arrived J x) (head_away (record { node = node; what = Finish stamp b ds }) past (shard_node K (shard_of K x)) e);
           finished = λ c. ap (λ J. has_finish J c)
-              (head_away (record { node = node; what = Finish stamp b ds }) past (shard_node K (shard_of K.shards x)) e);
+              (head_away (record { node = node; what = Finish stamp b ds }) past (shard_node K (shard_of K x)) e);
         })
       ];
-      others = λ c x o. unchanged (λ J. has_finish J c) (shard_node K (shard_of K.shards x)) (record { node = node; what = Finish stamp b ds }) past
+      others = λ c x o. unchanged (λ J. has_finish J c) (shard_node K (shard_of K x)) (record { node = node; what = Finish stamp b ds }) past
           (finish_behind c (journal_at K past x) o);
       spent = λ x. ap (λ ts. count x (all_inputs ts)) (append-nil (committed past));
       made = λ x. ap (λ ts. count x (all_outputs ts)) (append-nil (committed past));
@@ -451,7 +448,7 @@ module _ (K : Shape) (P : Compact → Type 0) (past : List Row) (st : Structure 
           (unchanged (λ J. txs_of J c) (c.lane / K.lanes) (record { node = node; what = Finish stamp b ds }) past refl i)
           (unchanged (λ J. outcomes_of J c) (c.lane / K.lanes) (record { node = node; what = Finish stamp b ds }) past refl i)));
       holds = λ c x. ap (λ a. count x (held_inputs a))
-          (unchanged (λ J. lock_of J c) (shard_node K (shard_of K.shards x)) (record { node = node; what = Finish stamp b ds }) past refl);
+          (unchanged (λ J. lock_of J c) (shard_node K (shard_of K x)) (record { node = node; what = Finish stamp b ds }) past refl);
     }
 
 -- what a row that is next and caused does to the view: nothing, or what its Lock, its Commit or its Finish does

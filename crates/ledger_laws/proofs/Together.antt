@@ -4,7 +4,7 @@ use Rattle.std.proofs.Common.{sym, ap, ◌∙◌, subst, arith, append_assoc}
 use Rattle.cbdc_model.specs.Causes.{IsCaused}
 use Rattle.cbdc_model.specs.History.{header_of, first_rows, Minted}
 use Rattle.cbdc_model.specs.Lanes.{IsEnd, Seen, Holds, may_come, first_of, AllPass, Wave}
-use Rattle.cbdc_model.specs.Records.{Shape, Compact, Record, Row, journal, stamp_of, last_stamp, is_in_lane, Prepare}
+use Rattle.cbdc_model.specs.Records.{Shape, Compact, Record, Row, journal, stamp_of, last_stamp, tells_lane, Prepare}
 use Rattle.cbdc_model.specs.World.{replaced, World, node_at, journals}
 use Rattle.cbdc_model.specs.Grammar.{IsInGrammar}
 use Rattle.cbdc_model.specs.After.{After}
@@ -205,10 +205,10 @@ module _ (K : Shape) (minting : Minted) (P : Compact → Type 0) (shards : 0 < K
       left_end : (lane m : ℕ) → IsEnd (wave.exits lane m) (X m)
       left_end lane m = ((wave.left lane).more m, (wave.left lane).is m)
 
-      may_not : (lane : ℕ) (r : Record) → is_in_lane lane r ≡ true → may_come false lane r ≡ true → ⊥
+      may_not : (lane : ℕ) (r : Record) → tells_lane lane r ≡ true → may_come false lane r ≡ true → ⊥
       may_not lane r h k = grind (arith, h)
 
-      of_lane : (lane n : ℕ) (newer rest : List Record) (r : Record) → X n ≡ newer ++ r ∷ rest → IsEnd (E n) rest → is_in_lane lane r ≡ true
+      of_lane : (lane n : ℕ) (newer rest : List Record) (r : Record) → X n ≡ newer ++ r ∷ rest → IsEnd (E n) rest → tells_lane lane r ≡ true
           → After (header_of K minting.id n) rest r
           → Next K n rest r × Seen K X n rest r × AllProper P r × IsInGrammar (header_of K minting.id n) r
       of_lane lane n newer rest r e h in_lane after =

@@ -125,7 +125,7 @@ module _ (K : Shape) (minting : Minted) (P : Compact → Type 0) (shards : 0 < K
 
   module _ (locked : has_lock (journal_at K past x) b ≡ true) where
     of_part : IsPart x 0 (txs_of home b) locks
-    of_part = is_part K.shards x 0 (txs_of home b) locks ((all_structure K minting P shards later kept).lock_part (shard_of K.shards x) b locked)
+    of_part = is_part K x 0 (txs_of home b) locks ((all_structure K minting P shards later kept).lock_part (shard_of K x) b locked)
 
     pub taken_is : count x (taken_inputs locks (decided won locks)) ≡ count x (all_inputs (won_of K past b))
     taken_is = count-taken x won of_part ∙ ap (λ ts. count x (all_inputs ts))
@@ -133,15 +133,15 @@ module _ (K : Shape) (minting : Minted) (P : Compact → Type 0) (shards : 0 < K
 
   -- by what the Commit that stands says of the Locks
   commit_agrees : (r : Record) (es : List Answered) → record_of 7 home b ≡ Some r → Facts K J (b.lane / K.lanes) r → IsPart x 0 (txs_of home b) es
-      → es ≡ entries_in (at_shards K J 2 b (shard_of K.shards x)) → Agrees (λ i. won_at (outcomes_in (Some r)) i) es
+      → es ≡ entries_in (at_shards K J 2 b (shard_of K x)) → Agrees (λ i. won_at (outcomes_in (Some r)) i) es
   commit_agrees (Commit stamp c os) es is facts of is_lock =
       let same : c ≡ b = (split_test 7 7 c b (found_passes 7 home b (Commit stamp c os) is)).1 in
       agrees x (λ i. won_at os i) of (λ j r le found won.
-      outcome_held (λ s. entries_in (at_shards K J 2 c s)) (0 + j) 0 K.shards (shard_of K.shards x) r
+      outcome_held (λ s. entries_in (at_shards K J 2 c s)) (0 + j) 0 K.shards (shard_of K x) r
       (won_at-outcomes (λ s. entries_in (at_shards K J 2 c s)) K.shards 0 _ j (subst (λ v. won_at v j ≡ true) facts.2 won))
-      (omega arith) (let l : shard_of K.shards x < K.shards = shard_of-lt K.shards x shards in omega arith)
-      (subst (λ i. reply_at (entries_in (at_shards K J 2 c (shard_of K.shards x))) i ≡ Some r) (omega arith)
-      (subst (λ d. reply_at (entries_in (at_shards K J 2 d (shard_of K.shards x))) j ≡ Some r) (sym same)
+      (omega arith) (let l : shard_of K x < K.shards = shard_of-lt K x shards in omega arith)
+      (subst (λ i. reply_at (entries_in (at_shards K J 2 c (shard_of K x))) i ≡ Some r) (omega arith)
+      (subst (λ d. reply_at (entries_in (at_shards K J 2 d (shard_of K x))) j ≡ Some r) (sym same)
       (subst (λ v. reply_at v j ≡ Some r) is_lock found))))
   commit_agrees other es is facts of is_lock = agrees_none es
 

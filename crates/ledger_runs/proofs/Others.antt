@@ -1,14 +1,16 @@
 -- Records of another lane: what a lane's own records say stays.
 use Rattle.std.proofs.Common.{◌≡◌, ◌≢◌, true, false, ℕ, List, [], ◌∷◌, ◌++◌, refl, sym, ap, ◌∙◌, subst, arith}
-use Rattle.cbdc_model.specs.Records.{Batch, Record, record_of, is_in_lane}
+use Rattle.cbdc_model.specs.Records.{Batch, Record, record_of, is_in_lane, tells_lane}
 use Rattle.cbdc_model.specs.Slots.{slot}
+use Rattle.cbdc_model.proofs.Telling.{in_lane_later, in_lane_tells}
 use Rattle.ledger_laws.proofs.ByKind.{lanes_apart}
 use Rattle.lane_laws.specs.Batches.{own}
 use Rattle.lane_laws.proofs.Own.{own_out, record_own, slot_own}
 use Rattle.ledger_runs.specs.Faults.{AreOfLane, GrowBy}
 
-not_of : (lane other : ℕ) (r : Record) → other ≢ lane → is_in_lane other r ≡ true → is_in_lane lane r ≡ false
-not_of lane other r apart h = lanes_apart other lane r h (grind (arith, apart))
+not_of : (lane other : ℕ) (r : Record) → other ≢ lane → is_in_lane other r ≡ true → tells_lane lane r ≡ false
+not_of lane other r apart h =
+    lanes_apart other lane r (in_lane_later other r h) (in_lane_tells other other r h ∙ h) (grind (arith, apart))
 
 own_stays : (lane other : ℕ) → other ≢ lane → (more old : List Record) → AreOfLane other more → own lane (more ++ old) ≡ own lane old
 own_stays lane other apart [] old all = refl

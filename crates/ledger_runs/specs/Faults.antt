@@ -49,7 +49,7 @@ pub data IsWanted (K : Shape) (lane : ℕ) (next : List Compact → Type 0) (X :
         → lane_phase K X lane ≡ InPrepare
         → record_of prepare_kind (X (home_of K lane)) b ≡ Some (Prepare t b txs) → HaveBelow K txs (λ k. X (shard_node K k)) lock_kind b s
         → (slot (X node) lane).number < b.number
-        → r ≡ lock_record front (record { batch = b; part = part K.shards s 0 txs; cause = t }) → IsWanted K lane next X node front r
+        → r ≡ lock_record front (record { batch = b; part = part K s 0 txs; cause = t }) → IsWanted K lane next X node front r
 
 -- behind a front of the node's journal, which the journal at entry begins and behind which nothing of the lane came, its disk has no room for what
 -- the wanted record needs there, whose stamp is not past the last one

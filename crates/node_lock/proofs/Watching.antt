@@ -2,9 +2,10 @@
 use Rattle.std.proofs.Common.{◌≡◌, ◌⊎◌, inl, inr, ℕ, ◌+◌, ◌<◌, Bool, true, false, List, [], ◌∷◌, ◌++◌, length, append_assoc, refl, sym, ap, ◌∙◌}
 use Rattle.std.proofs.Common.{subst, arith}
 use Rattle.std.specs.Prelude.{Option, Some, None, if◌then◌else◌}
-use Rattle.cbdc_model.specs.Records.{Record, is_in_lane}
+use Rattle.cbdc_model.specs.Records.{Record, tells_lane}
 use Rattle.cbdc_model.specs.Lanes.{IsEnd}
 use Rattle.cbdc_model.specs.Sights.{Sight}
+use Rattle.cbdc_model.proofs.Telling.{in_lane_tells}
 use Rattle.node_lock.specs.declared.views.Hand.{Hand}
 use Rattle.node_lock.specs.declared.seat.Seat.{Seat}
 use Rattle.node_lock.specs.Seats.{TableId, AllAt}
@@ -12,10 +13,10 @@ use Rattle.node_lock.specs.Moving.{of_lane}
 use Rattle.node_lock.specs.Tickets.{times, is_at, total, hand_at_lane, HandOk, AllHands, HasLeft, AllDrawn, Done}
 use Rattle.node_lock.proofs.Totals.{total_snoc, none_or_some, is_at_one}
 
-none_first : (l : ℕ) (r : Record) (log : List Record) → of_lane l (r ∷ log) ≡ [] → (is_in_lane l r ≡ true → ⊥) × (of_lane l log ≡ [])
-none_first l r log e = go (is_in_lane l r) refl e
+none_first : (l : ℕ) (r : Record) (log : List Record) → of_lane l (r ∷ log) ≡ [] → (tells_lane l r ≡ true → ⊥) × (of_lane l log ≡ [])
+none_first l r log e = go (tells_lane l r) refl e
   where
-    go : (b : Bool) → is_in_lane l r ≡ b → (if b then r ∷ of_lane l log else of_lane l log) ≡ [] → (is_in_lane l r ≡ true → ⊥) × (of_lane l log ≡ [])
+    go : (b : Bool) → tells_lane l r ≡ b → (if b then r ∷ of_lane l log else of_lane l log) ≡ [] → (tells_lane l r ≡ true → ⊥) × (of_lane l log ≡ [])
     go true is none = absurd (let z : r ∷ of_lane l log ≡ [] = none in cc)
     go false is none = (λ t. (let z : true ≡ false = sym t ∙ is in cc), none)
 
@@ -28,7 +29,7 @@ drawn_without lanes w (r ∷ log) none d =
     let some : 0 < times l (lanes ++ w ∷ []) = d.0.2 in
     let here : 0 < times l lanes = elim (none_or_some (is_at l w)) [
       | inl z ↦ omega (arith, all, some, z)
-      | inr p ↦ absurd (n.0 (subst (λ k. is_in_lane k r ≡ true) (is_at_one l w p) d.0.1))
+      | inr p ↦ absurd (n.0 (subst (λ k. tells_lane k r ≡ true) (is_at_one l w p) (in_lane_tells l l r d.0.1 ∙ d.0.1)))
     ] in
     ((l, d.0.1, here), drawn_without lanes w log n.1 d.1)
 

@@ -5,7 +5,7 @@ use Rattle.std.specs.Result.{IfOk, IfErr, OnOk, OnErr}
 use Rattle.cbdc_types.specs.declared.calls.NodeFault.{NodeFault}
 use Rattle.cbdc_types.specs.declared.calls.NodeFault.TheVariants.{Broken, Refused as Refuses, ClockEnd, Full, DiskFault, Memory}
 use Rattle.cbdc_types.specs.declared.batch.ShardReplies.{ShardReplies}
-use Rattle.cbdc_model.specs.Records.{Header, Batch, Compact, Outcome, Record, last_stamp, is_in_lane, txs_of, outcomes_of, Commit}
+use Rattle.cbdc_model.specs.Records.{Header, Batch, Compact, Outcome, Record, last_stamp, tells_lane, txs_of, outcomes_of, Commit}
 use Rattle.cbdc_model.specs.Slots.{slot, slot_stamp, Idle, InPrepare, InCommit, InDiscard}
 use Rattle.cbdc_model.specs.Next.{next_stamp}
 use Rattle.cbdc_model.specs.Deciding.{reply_cause}
@@ -47,8 +47,8 @@ seen_of m due old new J (Err f) told = inl (stays_seen m due old new J f told)
 
 in_order : (h : Header) (lane : ℕ) (J seen : List Record) → IsJournal h seen → (seen ≡ J) ⊎ ((r : Record) × (seen ≡ r ∷ J))
     → slot_stamp J lane ≤ last_stamp J
-in_order h lane J seen j (inl e) = found_below h (λ r. is_in_lane lane r) J (subst (λ x. IsJournal h x) e j)
-in_order h lane J seen j (inr (r, e)) = below_newest h (λ r. is_in_lane lane r) r J (subst (λ x. IsJournal h x) e j)
+in_order h lane J seen j (inl e) = found_below h (λ r. tells_lane lane r) J (subst (λ x. IsJournal h x) e j)
+in_order h lane J seen j (inr (r, e)) = below_newest h (λ r. tells_lane lane r) r J (subst (λ x. IsJournal h x) e j)
 
 broken_on : (opened before now : ℕ) (broken : Option ℕ) → before ≤ now → IsBrokenSince opened before broken → IsBrokenSince opened now broken
 broken_on opened before now None le h = tt

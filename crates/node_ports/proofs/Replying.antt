@@ -7,7 +7,7 @@ use Rattle.cbdc_types.specs.declared.calls.FinishCall.{FinishCall}
 use Rattle.cbdc_types.specs.declared.calls.ForgetCall.{ForgetCall}
 use Rattle.cbdc_types.specs.declared.calls.Replied.{Replied}
 use Rattle.cbdc_types.specs.declared.calls.NodeFault.{NodeFault}
-use Rattle.cbdc_model.specs.Records.{Header, Shape, Record, kind_of, is_of, is_in_lane, record_of, stamp_in, Finish, Forget}
+use Rattle.cbdc_model.specs.Records.{Header, Shape, Record, kind_of, is_of, tells_lane, record_of, stamp_in, Finish, Forget}
 use Rattle.cbdc_model.specs.Slots.{slot_stamp}
 use Rattle.cbdc_model.specs.Grammar.{IsReply}
 use Rattle.cbdc_model.specs.Next.{next_lock, next_finish, next_forget, next_stamp}
@@ -108,7 +108,7 @@ module _ (c : ForgetCall) (old new : Sight) (journal : IsJournal new.header new.
       let j : IsJournal new.header s.found = subst (λ x. IsJournal new.header x) s.seen journal in
       let kept = stamp_kept (next_forget s.found c.batch c.cause) (forget_record s.found) t s.answers in
       small t (slot_stamp s.found c.batch.lane) (forget_stored s.found c.batch c.cause t kept).stamp
-      (found_within new.header (λ r. is_in_lane c.batch.lane r) s.found j)
+      (found_within new.header (λ r. tells_lane c.batch.lane r) s.found j)
 
   new_forget : (t : ℕ) → Wrote true c.batch.lane by_forget old new t → IsStamp t
   new_forget t w =

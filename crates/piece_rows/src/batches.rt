@@ -3,7 +3,7 @@ use crate::files::verdicts_in;
 use crate::hashes::digest;
 use crate::state::State;
 use batcher::Batcher;
-use cbdc_types::{CompactTx, FullTx, Part, Refusal};
+use cbdc_types::{CompactTx, FullTx, Part, Refusal, Shape};
 use row_records::{Told, txs};
 use sentinel::{AllGood, check, tx_id};
 use shard_ranges::{shard_of, split};
@@ -12,8 +12,10 @@ use workload::{Workload, generate};
 /// `shard HASH SHARDS`, and the shard of the hash.
 pub fn shard(words: &[&str], told: &mut Told) {
     let x = told.hash_at(words, 0);
-    let shards = told.small_at(words, 1);
-    told.number(shard_of(&x, shards) as u64);
+    match Shape::new(told.small_at(words, 1), 1, 1, 1) {
+        Ok(shape) => told.number(shard_of(&x, &shape) as u64),
+        Err(_) => told.refuse("no shape"),
+    }
 }
 
 // The entries of a part, `SHARD PLACE ID HASH.. -> HASH..` in a line each.

@@ -74,14 +74,13 @@ below_shards n shards lt h =
     let k : n * shards < shards * 256 = omega (arith, m) in
     (div-lt_iff_lt-mul {k = 256} {x = n * shards} {y = shards} (lit< tt)).1 k
 
-shard_of-lt : (shards : ℕ) (x : Digest) → 0 < shards → shard_of shards x < shards
+shard_of-lt : (K : Shape) (x : Digest) → 0 < K.shards → shard_of K x < K.shards
 unfolding shard_of first_byte
-shard_of-lt shards x h = below_shards (slice_index x 0 % 256) shards (mod-lt (slice_index x 0) {m = 256} (lit< tt)) h
+shard_of-lt K x h = below_shards (slice_index x 0 % 256) K.shards (mod-lt (slice_index x 0) {m = 256} (lit< tt)) h
 
 -- an unspent hash is named by its shard
 is_named : (K : Shape) (J : ℕ → List Record) (x : Digest) → 0 < K.shards → IsUnspent K J x → has (named_below K J K.shards) x ≡ true
-is_named K J x some h = named_at K J x (shard_of K.shards x) K.shards (shard_of-lt K.shards x some)
-    (unspent_named (J (shard_node K (shard_of K.shards x))) x h)
+is_named K J x some h = named_at K J x (shard_of K x) K.shards (shard_of-lt K x some) (unspent_named (J (shard_node K (shard_of K x))) x h)
 
 test_is : (s : Status) → is_unspent_status s ≡ true → s ≡ Unspent
 test_is Unspent h = refl
@@ -89,7 +88,7 @@ test_is (Locked b) h = cc
 test_is Absent h = cc
 
 at_is : (K : Shape) (J : ℕ → List Record) (x : Digest) → is_unspent_at K J x ≡ true → IsUnspent K J x
-at_is K J x h = test_is (status (J (shard_node K (shard_of K.shards x))) x) h
+at_is K J x h = test_is (status (J (shard_node K (shard_of K x))) x) h
 
 is_at : (K : Shape) (J : ℕ → List Record) (x : Digest) → IsUnspent K J x → is_unspent_at K J x ≡ true
 is_at K J x u = ap is_unspent_status u

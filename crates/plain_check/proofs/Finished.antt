@@ -18,9 +18,9 @@ no_lie : IsTrue false → ⊥
 no_lie t = search rules
 
 -- the decisions of a part, transaction by transaction
-abbrev pub TellsDecisions : ℕ → ℕ → List Compact → List Outcome → List Bool → Bool → Type 0
-TellsDecisions shards s txs outcomes ds told = (all : List Outcome) (place : ℕ) → outcomes ≡ drop place all
-    → IsTrue told ↔ (ds ≡ decisions all (part shards s place txs))
+abbrev pub TellsDecisions : Shape → ℕ → List Compact → List Outcome → List Bool → Bool → Type 0
+TellsDecisions K s txs outcomes ds told = (all : List Outcome) (place : ℕ) → outcomes ≡ drop place all
+    → IsTrue told ↔ (ds ≡ decisions all (part K s place txs))
 
 drop_next : {A : Type 0} (all : List A) (place : ℕ) → drop 1 (drop place all) ≡ drop (suc place) all
 drop_next [] zero = refl
@@ -34,72 +34,72 @@ won_next [] (suc place) = refl
 won_next (o ∷ all) zero = refl
 won_next (o ∷ all) (suc place) = won_next all place
 
-elsewhere : (shards s k : ℕ) (t : Compact) (ts : List Compact) → is_empty (on_shard shards s t.inputs) ≡ true
-    → is_empty (on_shard shards s t.outputs) ≡ true
-    → part shards s k (t ∷ ts) ≡ part shards s (suc k) ts
-elsewhere shards s k t ts e f = rw (e, f) refl
+elsewhere : (K : Shape) (s k : ℕ) (t : Compact) (ts : List Compact) → is_empty (on_shard K s t.inputs) ≡ true
+    → is_empty (on_shard K s t.outputs) ≡ true
+    → part K s k (t ∷ ts) ≡ part K s (suc k) ts
+elsewhere K s k t ts e f = rw (e, f) refl
 
-here : (shards s k : ℕ) (t : Compact) (ts : List Compact) → (is_empty (on_shard shards s t.inputs) && is_empty (on_shard shards s t.outputs)) ≡ false
-    → part shards s k (t ∷ ts) ≡ entry_of shards s k t ∷ part shards s (suc k) ts
-here shards s k t ts e = rw e refl
+here : (K : Shape) (s k : ℕ) (t : Compact) (ts : List Compact) → (is_empty (on_shard K s t.inputs) && is_empty (on_shard K s t.outputs)) ≡ false
+    → part K s k (t ∷ ts) ≡ entry_of K s k t ∷ part K s (suc k) ts
+here K s k t ts e = rw e refl
 
-pub decides_none : (shards s : ℕ) (txs : List Compact) (outcomes : List Outcome) (ds : List Bool) (told : Bool) → txs ≡ []
-    → (IsTrue told ↔ (ds ≡ [])) → TellsDecisions shards s txs outcomes ds told
-decides_none shards s txs outcomes ds told e h all place is = subst (λ l. IsTrue told ↔ (ds ≡ decisions all (part shards s place l))) (sym e) h
+pub decides_none : (K : Shape) (s : ℕ) (txs : List Compact) (outcomes : List Outcome) (ds : List Bool) (told : Bool) → txs ≡ []
+    → (IsTrue told ↔ (ds ≡ [])) → TellsDecisions K s txs outcomes ds told
+decides_none K s txs outcomes ds told e h all place is = subst (λ l. IsTrue told ↔ (ds ≡ decisions all (part K s place l))) (sym e) h
 
-pub decides_elsewhere : (shards s : ℕ) (txs : List Compact) (t : Compact) (ts : List Compact) (outcomes back : List Outcome) (ds : List Bool)
+pub decides_elsewhere : (K : Shape) (s : ℕ) (txs : List Compact) (t : Compact) (ts : List Compact) (outcomes back : List Outcome) (ds : List Bool)
     (told : Bool)
-    → txs ≡ t ∷ ts → is_empty (on_shard shards s t.inputs) ≡ true → is_empty (on_shard shards s t.outputs) ≡ true → back ≡ drop 1 outcomes
-    → TellsDecisions shards s ts back ds told → TellsDecisions shards s txs outcomes ds told
-decides_elsewhere shards s txs t ts outcomes back ds told list e f b rest all place is =
-    subst (λ l. IsTrue told ↔ (ds ≡ decisions all (part shards s place l))) (sym list)
-    (subst (λ es. IsTrue told ↔ (ds ≡ decisions all es)) (sym (elsewhere shards s place t ts e f))
+    → txs ≡ t ∷ ts → is_empty (on_shard K s t.inputs) ≡ true → is_empty (on_shard K s t.outputs) ≡ true → back ≡ drop 1 outcomes
+    → TellsDecisions K s ts back ds told → TellsDecisions K s txs outcomes ds told
+decides_elsewhere K s txs t ts outcomes back ds told list e f b rest all place is =
+    subst (λ l. IsTrue told ↔ (ds ≡ decisions all (part K s place l))) (sym list)
+    (subst (λ es. IsTrue told ↔ (ds ≡ decisions all es)) (sym (elsewhere K s place t ts e f))
     (rest all (suc place) (b ∙ ap (drop 1) is ∙ drop_next all place)))
 
-pub decides_here : (shards s : ℕ) (txs : List Compact) (t : Compact) (ts : List Compact) (outcomes back : List Outcome) (all_ds : List Bool)
+pub decides_here : (K : Shape) (s : ℕ) (txs : List Compact) (t : Compact) (ts : List Compact) (outcomes back : List Outcome) (all_ds : List Bool)
     (d : Bool) (ds : List Bool) (told : Bool)
-    → txs ≡ t ∷ ts → all_ds ≡ d ∷ ds → (is_empty (on_shard shards s t.inputs) && is_empty (on_shard shards s t.outputs)) ≡ false
+    → txs ≡ t ∷ ts → all_ds ≡ d ∷ ds → (is_empty (on_shard K s t.inputs) && is_empty (on_shard K s t.outputs)) ≡ false
     → back ≡ drop 1 outcomes → d ≡ won_at outcomes 0
-    → TellsDecisions shards s ts back ds told → TellsDecisions shards s txs outcomes all_ds told
-decides_here shards s txs t ts outcomes back all_ds d ds told list list' e b same rest all place is =
+    → TellsDecisions K s ts back ds told → TellsDecisions K s txs outcomes all_ds told
+decides_here K s txs t ts outcomes back all_ds d ds told list list' e b same rest all place is =
     let first : d ≡ won_at all place = same ∙ ap (λ l. won_at l 0) is ∙ won_next all place in
-    let later : IsTrue told ↔ (ds ≡ decisions all (part shards s (suc place) ts)) = rest all (suc place) (b ∙ ap (drop 1) is ∙ drop_next all place) in
-    subst (λ l. IsTrue told ↔ (all_ds ≡ decisions all (part shards s place l))) (sym list)
-    (subst (λ l. IsTrue told ↔ (l ≡ decisions all (part shards s place (t ∷ ts)))) (sym list')
-    (subst (λ es. IsTrue told ↔ (d ∷ ds ≡ decisions all es)) (sym (here shards s place t ts e)) (
+    let later : IsTrue told ↔ (ds ≡ decisions all (part K s (suc place) ts)) = rest all (suc place) (b ∙ ap (drop 1) is ∙ drop_next all place) in
+    subst (λ l. IsTrue told ↔ (all_ds ≡ decisions all (part K s place l))) (sym list)
+    (subst (λ l. IsTrue told ↔ (l ≡ decisions all (part K s place (t ∷ ts)))) (sym list')
+    (subst (λ es. IsTrue told ↔ (d ∷ ds ≡ decisions all es)) (sym (here K s place t ts e)) (
       λ y. (λ i. first i ∷ later.0 y i),
-      λ both. later.1 (tails d ds (won_at all place) (decisions all (part shards s (suc place) ts)) both),
+      λ both. later.1 (tails d ds (won_at all place) (decisions all (part K s (suc place) ts)) both),
     )))
   where
     tails : (a : Bool) (rest : List Bool) (b : Bool) (more : List Bool) → a ∷ rest ≡ b ∷ more → rest ≡ more
     tails a rest b more e = cc
 
-pub decides_not : (shards s : ℕ) (txs : List Compact) (t : Compact) (ts : List Compact) (outcomes : List Outcome) (ds : List Bool)
-    → txs ≡ t ∷ ts → (is_empty (on_shard shards s t.inputs) && is_empty (on_shard shards s t.outputs)) ≡ false
+pub decides_not : (K : Shape) (s : ℕ) (txs : List Compact) (t : Compact) (ts : List Compact) (outcomes : List Outcome) (ds : List Bool)
+    → txs ≡ t ∷ ts → (is_empty (on_shard K s t.inputs) && is_empty (on_shard K s t.outputs)) ≡ false
     → ((d : Bool) (rest : List Bool) → ds ≡ d ∷ rest → d ≡ won_at outcomes 0 → ⊥)
-    → TellsDecisions shards s txs outcomes ds false
-decides_not shards s txs t ts outcomes ds list e differ all place is =
-    subst (λ l. IsTrue false ↔ (ds ≡ decisions all (part shards s place l))) (sym list)
-    (subst (λ es. IsTrue false ↔ (ds ≡ decisions all es)) (sym (here shards s place t ts e)) (
+    → TellsDecisions K s txs outcomes ds false
+decides_not K s txs t ts outcomes ds list e differ all place is =
+    subst (λ l. IsTrue false ↔ (ds ≡ decisions all (part K s place l))) (sym list)
+    (subst (λ es. IsTrue false ↔ (ds ≡ decisions all es)) (sym (here K s place t ts e)) (
       λ lie. absurd (no_lie lie),
-      λ same. absurd (differ (won_at all place) (decisions all (part shards s (suc place) ts)) same
+      λ same. absurd (differ (won_at all place) (decisions all (part K s (suc place) ts)) same
           (sym (ap (λ l. won_at l 0) is ∙ won_next all place))),
     ))
 
 -- what is finished at a shard
-pub finished_by : (K : Shape) (J : ℕ → List Record) (b : Batch) (s : ℕ) (told : Bool) (own home : List Record) (shards : ℕ) (txs : List Compact)
+pub finished_by : (K : Shape) (J : ℕ → List Record) (b : Batch) (s : ℕ) (told : Bool) (own home : List Record) (txs : List Compact)
     (outcomes : List Outcome) (ds : List Bool)
-    → own ≡ J (shard_node K s) → home ≡ J (home_of K b.lane) → shards ≡ K.shards → txs ≡ txs_of home b → outcomes ≡ outcomes_of home b
+    → own ≡ J (shard_node K s) → home ≡ J (home_of K b.lane) → txs ≡ txs_of home b → outcomes ≡ outcomes_of home b
     → ds ≡ decisions_in (record_of 3 own b)
-    → count_of 2 own b ≡ 1 → count_of 3 own b ≡ 1 → (IsTrue told ↔ (ds ≡ decisions outcomes (part shards s 0 txs)))
+    → count_of 2 own b ≡ 1 → count_of 3 own b ≡ 1 → (IsTrue told ↔ (ds ≡ decisions outcomes (part K s 0 txs)))
     → IsTrue told ↔ IsFinishedAt K J b s
-finished_by K J b s told own home shards txs outcomes ds o h n t u d one two same =
+finished_by K J b s told own home txs outcomes ds o h t u d one two same =
     let txs_is : txs ≡ txs_of (J (home_of K b.lane)) b = t ∙ ap (λ l. txs_of l b) h in
     let outcomes_is : outcomes ≡ outcomes_of (J (home_of K b.lane)) b = u ∙ ap (λ l. outcomes_of l b) h in
     let ds_is : ds ≡ decisions_in (record_of 3 (J (shard_node K s)) b) = d ∙ ap (λ l. decisions_in (record_of 3 l b)) o in
-    let all_is : decisions outcomes (part shards s 0 txs)
-    ≡ decisions (outcomes_of (J (home_of K b.lane)) b) (part K.shards s 0 (txs_of (J (home_of K b.lane)) b)) =
-    λ i. decisions (outcomes_is i) (part (n i) s 0 (txs_is i)) in (
+    let all_is : decisions outcomes (part K s 0 txs)
+    ≡ decisions (outcomes_of (J (home_of K b.lane)) b) (part K s 0 (txs_of (J (home_of K b.lane)) b)) =
+    λ i. decisions (outcomes_is i) (part K s 0 (txs_is i)) in (
       λ y. record {
         one_lock = subst (λ l. count_of 2 l b ≡ 1) o one;
         one_finish = subst (λ l. count_of 3 l b ≡ 1) o two;

@@ -14,10 +14,8 @@ starts_step K m zero h = absurd (omega arith)
 starts_step K m (suc n) h = let e : suc n - 1 ≡ n = omega arith in rw e refl
 
 pub geneses_step : (K : Shape) (m : Minted) (n : ℕ) → 0 < n
-    → geneses K m n ≡ record {
-      node = shard_node K (n - 1);
-      what = Genesis (header_of K m.id (shard_node K (n - 1))) (on_shard K.shards (n - 1) m.hashes);
-    } ∷ geneses K m (n - 1)
+    → geneses K m n ≡ record { node = shard_node K (n - 1); what = Genesis (header_of K m.id (shard_node K (n - 1))) (on_shard K (n - 1) m.hashes) }
+    ∷ geneses K m (n - 1)
 geneses_step K m zero h = absurd (omega arith)
 geneses_step K m (suc n) h = let e : suc n - 1 ≡ n = omega arith in rw e refl
 

@@ -11,7 +11,7 @@ pub record IsFinishedAt (K : Shape) (J : ℕ → List Record) (b : Batch) (s : �
   pub one_lock : count_of lock_kind (J (shard_node K s)) b ≡ 1
   pub one_finish : count_of finish_kind (J (shard_node K s)) b ≡ 1
   pub same_decisions : decisions_in (record_of finish_kind (J (shard_node K s)) b)
-      ≡ decisions (outcomes_of (J (home_of K b.lane)) b) (part K.shards s 0 (txs_of (J (home_of K b.lane)) b))
+      ≡ decisions (outcomes_of (J (home_of K b.lane)) b) (part K s 0 (txs_of (J (home_of K b.lane)) b))
 
 -- a journal has no record of the batch that a shard writes
 pub record HasNone (past : List Record) (b : Batch) : Type 0 where
@@ -22,7 +22,7 @@ pub record HasNone (past : List Record) (b : Batch) : Type 0 where
 -- the shard is finished where the batch concerns it, and has no record of it elsewhere
 pub record IsAlikeAt (K : Shape) (J : ℕ → List Record) (b : Batch) (s : ℕ) : Type 0 where
   pub finished : Concerned K (txs_of (J (home_of K b.lane)) b) s → IsFinishedAt K J b s
-  pub none : s < K.shards → is_no_part (part K.shards s 0 (txs_of (J (home_of K b.lane)) b)) ≡ true → HasNone (J (shard_node K s)) b
+  pub none : s < K.shards → is_no_part (part K s 0 (txs_of (J (home_of K b.lane)) b)) ≡ true → HasNone (J (shard_node K s)) b
 
 -- the batches that these records prepare at their own coordinator are finished alike
 abbrev pub PreparedAlike : Shape → (ℕ → List Record) → ℕ → List Record → Type 0

@@ -38,7 +38,7 @@ is_unspent_status Absent = false
 
 -- whether a hash is Unspent at its shard
 abbrev pub is_unspent_at : Shape → (ℕ → List Record) → Digest → Bool
-is_unspent_at K J x = is_unspent_status (status (J (shard_node K (shard_of K.shards x))) x)
+is_unspent_at K J x = is_unspent_status (status (J (shard_node K (shard_of K x))) x)
 
 -- the unspent ones of these hashes, each once
 abbrev pub unspent_among : Shape → (ℕ → List Record) → List Digest → List Digest

@@ -43,28 +43,27 @@ fn behind(outcomes: &[Outcome]) -> &[Outcome]
 // transaction's.
 #[tactic(auto, using(crate::proofs::Finished::decides_none))]
 fn are_decided(
-    shards: u32,
+    shape: &Shape,
     shard: u32,
     txs: &[CompactTx],
     outcomes: &[Outcome],
     ds: &[bool],
 ) -> bool
-    requires { shards < 2 ^ 24 }
     ensures { (all : Items ModelOutcome) (place : ℕ) → outcomes.now ≡ drop place all
-        → IsTrue result ↔ (ds.now ≡ decisions all (part shards shard place txs.now)) }
+        → IsTrue result ↔ (ds.now ≡ decisions all (part shape.now shard place txs.now)) }
 {
     let Some((t, others)) = txs.split_first() else {
         return ds.is_empty();
     };
-    if are_elsewhere(shards, shard, t.inputs.as_slice())
-        && are_elsewhere(shards, shard, t.outputs.as_slice())
+    if are_elsewhere(shape, shard, t.inputs.as_slice())
+        && are_elsewhere(shape, shard, t.outputs.as_slice())
     {
-        return are_decided(shards, shard, others, behind(outcomes), ds);
+        return are_decided(shape, shard, others, behind(outcomes), ds);
     }
     match ds.split_first() {
         None => false,
         Some((d, rest)) => {
-            *d == won_at(outcomes, 0) && are_decided(shards, shard, others, behind(outcomes), rest)
+            *d == won_at(outcomes, 0) && are_decided(shape, shard, others, behind(outcomes), rest)
         }
     }
 }
@@ -87,7 +86,7 @@ fn is_finished(journals: &[List<Record>], shape: &Shape, batch: &BatchId, shard:
     let own = journal_at(journals, shape.coordinators() + shard);
     has_one_each(own, batch)
         && are_decided(
-            shape.shards(),
+            shape,
             shard,
             txs_of(home, batch),
             outcomes_of(home, batch),

@@ -19,12 +19,12 @@ use std::alloc::{AllocError, Global};
 // Whether the entries are the transactions' part at this node, where it is a shard.
 fn is_part_at(shape: &Shape, node: NodeId, es: &[Answered], txs: &[CompactTx]) -> bool
     ensures { IsTrue result
-        ↔ ((s : ℕ) → node ≡ shard_node shape.now s → entries es.now ≡ part shape.now.shards s 0 txs.now) }
+        ↔ ((s : ℕ) → node ≡ shard_node shape.now s → entries es.now ≡ part shape.now s 0 txs.now) }
 {
     if node.0 < shape.coordinators() {
         return true;
     }
-    is_part_from(shape.shards(), node.0 - shape.coordinators(), 0, txs, es)
+    is_part_from(shape, node.0 - shape.coordinators(), 0, txs, es)
 }
 
 // Whether a Lock is caused.

@@ -100,7 +100,7 @@ fn add_geneses(
     }
     let node = NodeId(shape.coordinators() + (n - 1));
     let header = header_at(shape, &mint.id, node);
-    let hashes = hashes_on(alloc, shape.shards(), n - 1, mint.outputs.as_slice())?;
+    let hashes = hashes_on(alloc, shape, n - 1, mint.outputs.as_slice())?;
     put(
         out,
         Row {

@@ -57,10 +57,7 @@ fn put_status(
     ensures { OnOk result (page.new.text.items ≡ page.old.text.items
         ++ status_line hash.now (status_at shape.now (journals_in journals.now) hash.now)) }
 {
-    let own = journal_at(
-        journals,
-        shape.coordinators() + shard_of(hash, shape.shards()),
-    );
+    let own = journal_at(journals, shape.coordinators() + shard_of(hash, shape));
     let status = status_of(own, hash);
     write_status(page, hash, &status)
 }

@@ -19,7 +19,7 @@ use std::alloc::{AllocError, Global};
 fn is_unspent_here(journals: &[List<Record>], shape: &Shape, x: &Hash) -> bool
     ensures { result ≡ is_unspent_at shape.now (journals_in journals.now) x.now }
 {
-    let own = journal_at(journals, shape.coordinators() + shard_of(x, shape.shards()));
+    let own = journal_at(journals, shape.coordinators() + shard_of(x, shape));
     match status_of(own, x) {
         Status::Unspent => true,
         Status::Locked(_) => false,

@@ -36,7 +36,7 @@ fn first_of(
     }
     Ok(Record::Genesis {
         header,
-        hashes: hashes_on(alloc, shape.shards(), node.0 - shape.coordinators(), hashes)?,
+        hashes: hashes_on(alloc, shape, node.0 - shape.coordinators(), hashes)?,
     })
 }
 

@@ -2,7 +2,7 @@
 use Rattle.std.proofs.Common.{◌≡◌, ℕ, ◌≤◌, Bool, true, false, ◌&&◌, not, List, [], ◌∷◌, ◌++◌, length, refl, sym, ap, ◌∙◌, subst}
 use Rattle.std.specs.Prelude.{if◌then◌else◌}
 use Rattle.std.specs.Vec.{vec_capacity}
-use Rattle.cbdc_model.specs.Records.{Record, is_in_lane, txs_in, txs_of}
+use Rattle.cbdc_model.specs.Records.{Record, tells_lane, txs_in, txs_of}
 use Rattle.cbdc_model.specs.Lanes.{may_come}
 use Rattle.cbdc_model.specs.Slots.{Phase, slot, Idle, InPrepare, InCommit, InDiscard}
 use Rattle.cbdc_model.specs.Grammar.{HasSize}
@@ -18,9 +18,9 @@ use Rattle.port_sets.specs.Logs.{log_call_lane, txs_at, log_may_be_asked}
 -- records of other lanes may come between what a lane has seen and what it finds, where it is not alone
 pub all_may : (lane : ℕ) (xs : List Record) → of_lane lane xs ≡ [] → AllMay false lane xs
 all_may lane [] e = tt
-all_may lane (x ∷ xs) e = go (is_in_lane lane x) refl e (all_may lane xs)
+all_may lane (x ∷ xs) e = go (tells_lane lane x) refl e (all_may lane xs)
   where
-    go : (b : Bool) → is_in_lane lane x ≡ b → (if b then x ∷ of_lane lane xs else of_lane lane xs) ≡ []
+    go : (b : Bool) → tells_lane lane x ≡ b → (if b then x ∷ of_lane lane xs else of_lane lane xs) ≡ []
         → (of_lane lane xs ≡ [] → AllMay false lane xs) → (may_come false lane x ≡ true) × AllMay false lane xs
     go true is e f = absurd (let z : x ∷ of_lane lane xs ≡ [] = e in cc)
     go false is e f = (ap (λ b. not false && not b) is, f e)

@@ -21,7 +21,7 @@ init_lines mint = init_text (length mint) (value_out mint) (genesis_id mint)
 
 -- the status of a hash at its shard
 abbrev pub status_at : Shape → (ℕ → List Record) → Digest → Status
-status_at K J x = status (J (shard_node K (shard_of K.shards x))) x
+status_at K J x = status (J (shard_node K (shard_of K x))) x
 
 -- of hashes: a line for each in order
 abbrev pub status_lines : Shape → (ℕ → List Record) → List Digest → Text

@@ -1,7 +1,7 @@
 -- Room on a new ledger for small transactions.
-use Rattle.std.proofs.Common.{◌≡◌, ◌≢◌, ◌⊎◌, inl, inr, ℕ, zero, suc, ◌+◌, ◌-◌, ◌*◌, ◌/◌, ◌%◌, ◌^◌, ◌<◌, ◌≤◌, Bool, true, false, nat_lt, ◌&&◌, ◌==◌}
-use Rattle.std.proofs.Common.{cond, if◌then◌else◌, List, [], ◌∷◌, ◌++◌, length, map, take, drop, is_some, not, length-take, length-drop, refl, sym}
-use Rattle.std.proofs.Common.{ap, ◌∙◌, subst, arith}
+use Rattle.std.proofs.Common.{◌≡◌, ◌≢◌, inl, inr, ℕ, zero, suc, ◌+◌, ◌-◌, ◌*◌, ◌%◌, ◌^◌, ◌<◌, ◌≤◌, Bool, true, false, nat_lt, ◌&&◌, ◌==◌, cond}
+use Rattle.std.proofs.Common.{if◌then◌else◌, List, [], ◌∷◌, ◌++◌, length, map, take, drop, is_some, not, length-take, length-drop, refl, sym, ap, ◌∙◌}
+use Rattle.std.proofs.Common.{subst, arith}
 use Rattle.std.specs.List.{filter, flat_map, range_with_len, sum_by}
 use Rattle.std.proofs.lemmas.List.{length-append, length-map}
 use Rattle.std.proofs.lemmas.Bool.{cases_lt, true≢false}
@@ -145,26 +145,26 @@ all_sent sound lanes k n (t ∷ file) =
 -- ---- a batch
 
 -- hashes on a shard are no more than all
-on_few : (shards s : ℕ) (xs : List Digest) → length (on_shard shards s xs) ≤ length xs
-on_few shards s [] = omega arith
-on_few shards s (x ∷ xs) = elim (shard_of shards x == s) as
-    (λ b. length (if b then x ∷ on_shard shards s xs else on_shard shards s xs) ≤ length (x ∷ xs)) [
-      | true ↦ omega (arith, on_few shards s xs)
-      | false ↦ omega (arith, on_few shards s xs)
+on_few : (K : Shape) (s : ℕ) (xs : List Digest) → length (on_shard K s xs) ≤ length xs
+on_few K s [] = omega arith
+on_few K s (x ∷ xs) = elim (shard_of K x == s) as
+    (λ b. length (if b then x ∷ on_shard K s xs else on_shard K s xs) ≤ length (x ∷ xs)) [
+      | true ↦ omega (arith, on_few K s xs)
+      | false ↦ omega (arith, on_few K s xs)
     ]
 
 -- a part has no more entries than transactions, each of 201 bytes at most
-part_few : (shards s k : ℕ) (txs : List Compact) → AreFew txs
-    → (length (part shards s k txs) ≤ length txs) × (total largest_answered (part shards s k txs) ≤ 201 * length (part shards s k txs))
-part_few shards s k [] few = (omega arith, omega arith)
-part_few shards s k (t ∷ txs) few =
-    let rest = part_few shards s (suc k) txs few.1 in
-    elim (is_empty (on_shard shards s t.inputs) && is_empty (on_shard shards s t.outputs)) as
-    (λ b. (length (if b then part shards s (suc k) txs else entry_of shards s k t ∷ part shards s (suc k) txs) ≤ length (t ∷ txs))
-    × (total largest_answered (if b then part shards s (suc k) txs else entry_of shards s k t ∷ part shards s (suc k) txs)
-    ≤ 201 * length (if b then part shards s (suc k) txs else entry_of shards s k t ∷ part shards s (suc k) txs))) [
+part_few : (K : Shape) (s k : ℕ) (txs : List Compact) → AreFew txs
+    → (length (part K s k txs) ≤ length txs) × (total largest_answered (part K s k txs) ≤ 201 * length (part K s k txs))
+part_few K s k [] few = (omega arith, omega arith)
+part_few K s k (t ∷ txs) few =
+    let rest = part_few K s (suc k) txs few.1 in
+    elim (is_empty (on_shard K s t.inputs) && is_empty (on_shard K s t.outputs)) as
+    (λ b. (length (if b then part K s (suc k) txs else entry_of K s k t ∷ part K s (suc k) txs) ≤ length (t ∷ txs))
+    × (total largest_answered (if b then part K s (suc k) txs else entry_of K s k t ∷ part K s (suc k) txs)
+    ≤ 201 * length (if b then part K s (suc k) txs else entry_of K s k t ∷ part K s (suc k) txs))) [
       | true ↦ (omega (arith, rest.0), rest.1)
-      | false ↦ (omega (arith, rest.0), omega (arith, rest.1, few.0, on_few shards s t.inputs, on_few shards s t.outputs))
+      | false ↦ (omega (arith, rest.0), omega (arith, rest.1, few.0, on_few K s t.inputs, on_few K s t.outputs))
     ]
 
 sizes_few : (txs : List Compact) → AreFew txs → total compact_size txs ≤ 144 * length txs
@@ -210,8 +210,8 @@ module _ (K : Shape) (lane : ℕ) (txs : List Compact) (few : AreFew txs) (some 
       elsewhere n node 2 (42 + sum_by largest_answered (e ∷ es)) second apart
       (elsewhere n node 3 (42 + length (e ∷ es)) last apart (elsewhere n node 4 34 [] apart refl))
 
-  shard_most : (n node s : ℕ) → weight bytes n (coming_at_shard node (part K.shards s 0 txs)) ≤ 320 * length txs
-  shard_most n node s = go (part K.shards s 0 txs) (part_few K.shards s 0 txs few)
+  shard_most : (n node s : ℕ) → weight bytes n (coming_at_shard node (part K s 0 txs)) ≤ 320 * length txs
+  shard_most n node s = go (part K s 0 txs) (part_few K s 0 txs few)
     where
       go : (es : List Entry) → (length es ≤ length txs) × (total largest_answered es ≤ 201 * length es)
           → weight bytes n (coming_at_shard node es) ≤ 320 * length txs
@@ -222,7 +222,7 @@ module _ (K : Shape) (lane : ℕ) (txs : List Compact) (few : AreFew txs) (some 
           omega (arith, all, is, bound.0, bound.1)
 
   abbrev shards_of : List Coming
-  shards_of = flat_map (λ s. coming_at_shard (shard_node K s) (part K.shards s 0 txs)) (range_with_len 0 K.shards)
+  shards_of = flat_map (λ s. coming_at_shard (shard_node K s) (part K s 0 txs)) (range_with_len 0 K.shards)
 
   both : (n : ℕ) → weight bytes n (records_of K lane txs) ≡ weight bytes n (at_coordinator K lane txs) + weight bytes n shards_of
   both n = weight-append bytes n (at_coordinator K lane txs) shards_of
@@ -230,20 +230,20 @@ module _ (K : Shape) (lane : ℕ) (txs : List Compact) (few : AreFew txs) (some 
   -- all records of a batch at a coordinator, and at a shard
   at_home : (n : ℕ) → n < K.coordinators → weight bytes n (records_of K lane txs) ≤ 353 * length txs
   at_home n low =
-      let range : weight bytes n shards_of ≡ sum_below (λ s. weight bytes n (coming_at_shard (shard_node K s) (part K.shards s 0 txs))) K.shards =
-      weight_range bytes n (λ s. coming_at_shard (shard_node K s) (part K.shards s 0 txs)) K.shards in
-      let none : sum_below (λ s. weight bytes n (coming_at_shard (shard_node K s) (part K.shards s 0 txs))) K.shards ≡ 0 =
-      sum_none (λ s. weight bytes n (coming_at_shard (shard_node K s) (part K.shards s 0 txs))) K.shards
-      (λ s lt. shard_none n (shard_node K s) (part K.shards s 0 txs) (λ h. omega (arith, h, low))) in
+      let range : weight bytes n shards_of ≡ sum_below (λ s. weight bytes n (coming_at_shard (shard_node K s) (part K s 0 txs))) K.shards =
+      weight_range bytes n (λ s. coming_at_shard (shard_node K s) (part K s 0 txs)) K.shards in
+      let none : sum_below (λ s. weight bytes n (coming_at_shard (shard_node K s) (part K s 0 txs))) K.shards ≡ 0 =
+      sum_none (λ s. weight bytes n (coming_at_shard (shard_node K s) (part K s 0 txs))) K.shards
+      (λ s lt. shard_none n (shard_node K s) (part K s 0 txs) (λ h. omega (arith, h, low))) in
       omega (arith, both n, range, none, home_most n)
 
   at_shards : (n : ℕ) → home_of K lane < K.coordinators → K.coordinators ≤ n → weight bytes n (records_of K lane txs) ≤ 320 * length txs
   at_shards n home high =
-      let range : weight bytes n shards_of ≡ sum_below (λ s. weight bytes n (coming_at_shard (shard_node K s) (part K.shards s 0 txs))) K.shards =
-      weight_range bytes n (λ s. coming_at_shard (shard_node K s) (part K.shards s 0 txs)) K.shards in
-      let own : sum_below (λ s. weight bytes n (coming_at_shard (shard_node K s) (part K.shards s 0 txs))) K.shards ≤ 320 * length txs =
-      single (λ s. weight bytes n (coming_at_shard (shard_node K s) (part K.shards s 0 txs))) (n - K.coordinators) K.shards (320 * length txs)
-      (λ s apart. shard_none n (shard_node K s) (part K.shards s 0 txs) (λ h. apart (omega (arith, h))))
+      let range : weight bytes n shards_of ≡ sum_below (λ s. weight bytes n (coming_at_shard (shard_node K s) (part K s 0 txs))) K.shards =
+      weight_range bytes n (λ s. coming_at_shard (shard_node K s) (part K s 0 txs)) K.shards in
+      let own : sum_below (λ s. weight bytes n (coming_at_shard (shard_node K s) (part K s 0 txs))) K.shards ≤ 320 * length txs =
+      single (λ s. weight bytes n (coming_at_shard (shard_node K s) (part K s 0 txs))) (n - K.coordinators) K.shards (320 * length txs)
+      (λ s apart. shard_none n (shard_node K s) (part K s 0 txs) (λ h. apart (omega (arith, h))))
       (shard_most n (shard_node K (n - K.coordinators)) (n - K.coordinators)) in
       let none = home_none n (λ h. omega (arith, h, home, high)) in
       omega (arith, both n, range, own, none)
@@ -253,12 +253,12 @@ module _ (K : Shape) (lane : ℕ) (txs : List Compact) (few : AreFew txs) (some 
   shard_count node [] = omega arith
   shard_count node (e ∷ es) = omega arith
 
-  shards_count : (ss : List ℕ) → length (flat_map (λ s. coming_at_shard (shard_node K s) (part K.shards s 0 txs)) ss) ≤ 3 * length ss
+  shards_count : (ss : List ℕ) → length (flat_map (λ s. coming_at_shard (shard_node K s) (part K s 0 txs)) ss) ≤ 3 * length ss
   shards_count [] = omega arith
   shards_count (s ∷ ss) =
-      let here = shard_count (shard_node K s) (part K.shards s 0 txs) in
-      let long = length-append (coming_at_shard (shard_node K s) (part K.shards s 0 txs))
-      (flat_map (λ s. coming_at_shard (shard_node K s) (part K.shards s 0 txs)) ss) in
+      let here = shard_count (shard_node K s) (part K s 0 txs) in
+      let long = length-append (coming_at_shard (shard_node K s) (part K s 0 txs))
+      (flat_map (λ s. coming_at_shard (shard_node K s) (part K s 0 txs)) ss) in
       omega (arith, here, long, shards_count ss)
 
   records_count : K.shards ≤ 64 → length (records_of K lane txs) ≤ 196 * length txs
@@ -369,7 +369,7 @@ idle_unwritten K E lane idle =
 
 first_idle : (K : Shape) (m : Minted) (n lane : ℕ) → (slot (first_record K m n ∷ []) lane).phase ≡ Idle
 first_idle K m n lane = elim (nat_lt n K.coordinators) as
-    (λ b. (slot ((if b then Start (header_of K m.id n) else Genesis (header_of K m.id n) (on_shard K.shards (n - K.coordinators) m.hashes)) ∷ [])
+    (λ b. (slot ((if b then Start (header_of K m.id n) else Genesis (header_of K m.id n) (on_shard K (n - K.coordinators) m.hashes)) ∷ [])
     lane).phase ≡ Idle) [
       | true ↦ refl
       | false ↦ refl
@@ -377,8 +377,7 @@ first_idle K m n lane = elim (nat_lt n K.coordinators) as
 
 first_stamp : (K : Shape) (m : Minted) (n : ℕ) → last_stamp (first_record K m n ∷ []) ≡ 0
 first_stamp K m n = elim (nat_lt n K.coordinators) as
-    (λ b. last_stamp ((if b then Start (header_of K m.id n) else Genesis (header_of K m.id n) (on_shard K.shards (n - K.coordinators) m.hashes))
-    ∷ []) ≡ 0) [
+    (λ b. last_stamp ((if b then Start (header_of K m.id n) else Genesis (header_of K m.id n) (on_shard K (n - K.coordinators) m.hashes)) ∷ []) ≡ 0) [
       | true ↦ refl
       | false ↦ refl
     ]
@@ -392,16 +391,16 @@ first_used K m n = go (nat_lt n K.coordinators) refl
   where
     go : (b : Bool) → nat_lt n K.coordinators ≡ b
         → (n < K.coordinators → used_of ((if b then Start (header_of K m.id n)
-        else Genesis (header_of K m.id n) (on_shard K.shards (n - K.coordinators) m.hashes)) ∷ []) ≤ 99)
-        × (used_of ((if b then Start (header_of K m.id n) else Genesis (header_of K m.id n) (on_shard K.shards (n - K.coordinators) m.hashes)) ∷ [])
+        else Genesis (header_of K m.id n) (on_shard K (n - K.coordinators) m.hashes)) ∷ []) ≤ 99)
+        × (used_of ((if b then Start (header_of K m.id n) else Genesis (header_of K m.id n) (on_shard K (n - K.coordinators) m.hashes)) ∷ [])
         ≤ 107 + 32 * length m.hashes)
     go true e = ((λ low. omega (arith, used_one (Start (header_of K m.id n)))), omega (arith, used_one (Start (header_of K m.id n))))
     go false e = (
       (λ low. absurd (let z : nat_lt n K.coordinators ≡ true = grind (arith, low) in true≢false (sym z ∙ e))),
       omega (
         arith,
-        used_one (Genesis (header_of K m.id n) (on_shard K.shards (n - K.coordinators) m.hashes)),
-        on_few K.shards (n - K.coordinators) m.hashes,
+        used_one (Genesis (header_of K m.id n) (on_shard K (n - K.coordinators) m.hashes)),
+        on_few K (n - K.coordinators) m.hashes,
       ),
     )
 

@@ -37,7 +37,7 @@ are_cut K sound (file ∷ files) lane pieces (own, more, cut, rest, is) = (own, 
 is_concerned_there : (K : Shape) (txs : List Compact) (s : ℕ) → is_concerned K txs s ≡ true → Concerned K txs s
 is_concerned_there K txs s h =
     let inside : s < K.shards = grind (arith, h) in
-    let some : is_no_part (part K.shards s 0 txs) ≡ false = grind (arith, h) in
+    let some : is_no_part (part K s 0 txs) ≡ false = grind (arith, h) in
     (inside, some)
 
 module _ (K : Shape) (mint : List Output) (sound : FullTx → Bool) (capacity : ℕ → ℕ) (files : List (List FullTx)) (E X : ℕ → List Record)

@@ -35,7 +35,7 @@ use Rattle.rack_runs.specs.Telling.{CountAll}
 
 module _ (h : Header) where
   abbrev Here : Digest → Type 0
-  Here x = shard_node h.shape (shard_of h.shape.shards x) ≡ h.node
+  Here x = shard_node h.shape (shard_of h.shape x) ≡ h.node
 
   in_list : (xs : List Digest) (x : Digest) → AreHere h.shape h.node xs → has xs x ≡ true → Here x
   in_list [] x all i = absurd (let z : false ≡ true = i in cc)
@@ -168,14 +168,14 @@ module _ (K : Shape) (J : ℕ → List Record) where
   pub record Gathered (from many n : ℕ) : Type 0 where
     pub hashes : List Digest
     pub once : IsSet hashes
-    pub only : (x : Digest) → has hashes x ≡ true → IsUnspent K J x × (from ≤ shard_of K.shards x) × (shard_of K.shards x < from + many)
-    pub all : (x : Digest) → IsUnspent K J x → from ≤ shard_of K.shards x → shard_of K.shards x < from + many → has hashes x ≡ true
+    pub only : (x : Digest) → has hashes x ≡ true → IsUnspent K J x × (from ≤ shard_of K x) × (shard_of K x < from + many)
+    pub all : (x : Digest) → IsUnspent K J x → from ≤ shard_of K x → shard_of K x < from + many → has hashes x ≡ true
     pub count : n ≡ length hashes
 
   -- the journals of these shards, where only hashes of their own are unspent
   abbrev pub AreShards : ℕ → List (List Record) → Type 0
   AreShards from [] = Unit {0}
-  AreShards from (L ∷ Ls) = (J (shard_node K from) ≡ L) × ((x : Digest) → status L x ≡ Unspent → shard_of K.shards x ≡ from) × AreShards (suc from) Ls
+  AreShards from (L ∷ Ls) = (J (shard_node K from) ≡ L) × ((x : Digest) → status L x ≡ Unspent → shard_of K x ≡ from) × AreShards (suc from) Ls
 
   pub gathered : (from : ℕ) (Ls : List (List Record)) (n : ℕ) → AreShards from Ls → CountAll Ls n → Gathered from (length Ls) n
   gathered from [] n are e = record {
@@ -188,9 +188,8 @@ module _ (K : Shape) (J : ℕ → List Record) where
   gathered from (L ∷ Ls) n are (own, rest, counts, others, e) =
       let g = gathered (suc from) Ls rest are.2 others in
       let its : (x : Digest) → has counts.hashes x ≡ true → status L x ≡ Unspent = λ x i. tells_unspent (status L x) (sym (counts.all x) ∙ i) in
-      let at : (x : Digest) → has counts.hashes x ≡ true → shard_of K.shards x ≡ from = λ x i. are.1 x (its x i) in
-      let there : (x : Digest) → shard_of K.shards x ≡ from
-      → J (shard_node K (shard_of K.shards x)) ≡ L = λ x s. ap (λ m. J (shard_node K m)) s ∙ are.0 in
+      let at : (x : Digest) → has counts.hashes x ≡ true → shard_of K x ≡ from = λ x i. are.1 x (its x i) in
+      let there : (x : Digest) → shard_of K x ≡ from → J (shard_node K (shard_of K x)) ≡ L = λ x s. ap (λ m. J (shard_node K m)) s ∙ are.0 in
       record {
         hashes = counts.hashes ++ g.hashes;
         once = set_both counts.hashes g.hashes counts.once g.once (λ x i k. absurd (let a = at x i in let b = (g.only x k).1 in omega (arith, a, b)));
@@ -199,13 +198,13 @@ module _ (K : Shape) (J : ℕ → List Record) where
           | inr o ↦ let s = g.only x o in (s.0, omega (arith, s.1), omega (arith, s.2))
         ];
         all = λ x u low high. has_append counts.hashes g.hashes x
-            ∙ elim (shard_of K.shards x == from) as (λ t. (shard_of K.shards x == from) ≡ t → (has counts.hashes x || has g.hashes x) ≡ true) [
+            ∙ elim (shard_of K x == from) as (λ t. (shard_of K x == from) ≡ t → (has counts.hashes x || has g.hashes x) ≡ true) [
               | true ↦ λ t.
-                  let s : shard_of K.shards x ≡ from = grind (arith, t) in
+                  let s : shard_of K x ≡ from = grind (arith, t) in
                   let o : has counts.hashes x ≡ true = counts.all x ∙ ap says_unspent (ap (λ M. status M x) (sym (there x s)) ∙ u) in
                   grind (arith, o)
               | false ↦ λ t.
-                  let above : suc from ≤ shard_of K.shards x = grind (arith, t, low) in
+                  let above : suc from ≤ shard_of K x = grind (arith, t, low) in
                   let o : has g.hashes x ≡ true = g.all x u above (omega (arith, high)) in
                   grind (arith, o)
             ] refl;
@@ -239,9 +238,9 @@ module _ {D : Type 0} (h : Header) (logs shards : List (NodeOf D)) (ledger : IsL
   J = node_journals h.shape logs shards
 
   its_own : (s : NodeOf D) (from : ℕ) → IsJournal s.header s.journal → s.header ≡ header_of h.shape h.genesis (shard_node h.shape from)
-      → (x : Digest) → status s.journal x ≡ Unspent → shard_of K.shards x ≡ from
+      → (x : Digest) → status s.journal x ≡ Unspent → shard_of K x ≡ from
   its_own s from journal header x u =
-      let at = subst (λ g. shard_node g.shape (shard_of g.shape.shards x) ≡ g.node) header (unspent_here s.header s.journal journal x u) in
+      let at = subst (λ g. shard_node g.shape (shard_of g.shape x) ≡ g.node) header (unspent_here s.header s.journal journal x u) in
       omega (arith, at)
 
   are_shards : (from : ℕ) (rest : List (NodeOf D)) → from + length rest ≡ length shards
@@ -268,7 +267,7 @@ module _ {D : Type 0} (h : Header) (logs shards : List (NodeOf D)) (ledger : IsL
         once = all.once;
         all = λ x. (
           λ i. (all.only x i).0,
-          λ u. all.all x u (omega arith) (let lt = shard_of-lt K.shards x ledger.limits.some_shard in omega (arith, lt, long)),
+          λ u. all.all x u (omega arith) (let lt = shard_of-lt K x ledger.limits.some_shard in omega (arith, lt, long)),
         );
         count = all.count;
       }

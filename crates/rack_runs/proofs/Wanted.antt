@@ -206,7 +206,7 @@ module _ (K : Shape) (m : Minted) (X : ℕ → List Record) (limits : IsWithinLi
   module _ (b : Batch) (t : ℕ) (txs : List Compact) (s : ℕ) (asks : is_concerned K txs s ≡ true)
       (stands : record_of 6 (X (home_of K b.lane)) b ≡ Some (Prepare t b txs)) where
     abbrev c : LockCall
-    c = record { batch = b; part = part K.shards s 0 txs; cause = t }
+    c = record { batch = b; part = part K s 0 txs; cause = t }
 
     abbrev h : Header
     h = header_of K m.id (shard_node K s)
@@ -222,10 +222,10 @@ module _ (K : Shape) (m : Minted) (X : ℕ → List Record) (limits : IsWithinLi
 
     -- a shard that has not come to the batch is idle there
     shard_idle : (slot (X (shard_node K s)) b.lane).number < b.number → (slot (X (shard_node K s)) b.lane).phase ≡ Idle
-    shard_idle behind = by (subst (λ L. LockAnswered L b (part K.shards s 0 txs) t) (checked.history.journals_are (shard_node K s))
+    shard_idle behind = by (subst (λ L. LockAnswered L b (part K s 0 txs) t) (checked.history.journals_are (shard_node K s))
         (lock_answered K m Any limits.some_shard checked.later (rows_of K m X checked) b t txs stands_there s low))
       where
-        by : LockAnswered (X (shard_node K s)) b (part K.shards s 0 txs) t → (slot (X (shard_node K s)) b.lane).phase ≡ Idle
+        by : LockAnswered (X (shard_node K s)) b (part K s 0 txs) t → (slot (X (shard_node K s)) b.lane).phase ≡ Idle
         by (lock_stale (inl lt)) = absurd (omega (arith, lt, behind))
         by (lock_stale (inr (n, idle))) = absurd (omega (arith, n, behind))
         by (lock_stored n same) = absurd (omega (arith, n, behind))
@@ -242,7 +242,7 @@ module _ (K : Shape) (m : Minted) (X : ℕ → List Record) (limits : IsWithinLi
     lock_next front j still behind =
         let idle : (slot front b.lane).phase ≡ Idle = ap (λ q. q.phase) still ∙ shard_idle behind in
         let number : (slot front b.lane).number < b.number = subst (λ q. q.number < b.number) (sym still) behind in (
-          (omega arith, idle, number, ap (λ es. answered front b [] es) (sym (entries_answered front b (part K.shards s 0 txs) []))),
+          (omega arith, idle, number, ap (λ es. answered front b [] es) (sym (entries_answered front b (part K s 0 txs) []))),
           λ early. lock_after h front c j (omega arith, omega (arith, low)) call idle number early,
         )
 

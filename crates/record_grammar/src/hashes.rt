@@ -27,9 +27,9 @@ pub(crate) fn is_hash_list(xs: &[Hash]) -> bool
 }
 
 fn is_here(h: &Header, x: &Hash) -> bool
-    ensures { IsTrue result ↔ (shard_node h.now.shape (the_shard h.now.shape.shards x.now) ≡ h.now.node) }
+    ensures { IsTrue result ↔ (shard_node h.now.shape (the_shard h.now.shape x.now) ≡ h.now.node) }
 {
-    h.shape.coordinators() + shard_of(x, h.shape.shards()) == h.node.0
+    h.shape.coordinators() + shard_of(x, &h.shape) == h.node.0
 }
 
 // Whether the hashes lie on the header's shard.

@@ -5,16 +5,16 @@ use Rattle.std.proofs.lemmas.List.Elements.{All-nil, All-cons, All-head, All-tai
 use Rattle.cbdc_types.specs.declared.batch.OpenLane.{OpenLane}
 use Rattle.cbdc_types.specs.declared.batch.Phase.{Phase as OpenPhase}
 use Rattle.cbdc_types.specs.declared.batch.Phase.TheVariants.{Prepared, Committed, Discarded}
-use Rattle.cbdc_model.specs.Records.{Shape, Batch, Compact, Outcome, Record, record_of, entries_in, stamp_in, is_in_lane}
+use Rattle.cbdc_model.specs.Records.{Shape, Batch, Compact, Outcome, Record, record_of, entries_in, stamp_in, tells_lane}
 use Rattle.cbdc_model.specs.Slots.{Phase, slot, slot_stamp}
 use Rattle.cbdc_model.specs.Replies.{entries}
 use Rattle.cbdc_model.specs.Outcomes.{decisions}
 use Rattle.cbdc_model.specs.Ranges.{home_of, shard_node, part}
-use Rattle.cbdc_model.specs.Lanes.{may_come, Made}
+use Rattle.cbdc_model.specs.Lanes.{Holds, may_come, Made}
 use Rattle.cbdc_model.specs.Sights.{Sight}
 use Rattle.lane_laws.specs.Batches.{own, view}
 use Rattle.lane_laws.specs.Resuming.{IsOpenAt, IsPreparedAt, IsCommittedAt, IsDiscardedAt}
-use Rattle.ledger_laws.proofs.ByKind.{lanes_apart}
+use Rattle.ledger_laws.proofs.ByKind.{held_later, lanes_apart}
 use Rattle.lane_laws.proofs.Own.{own_out, slot_own, stamp_own}
 use Rattle.lane_laws.proofs.Views.{view_home, view_shard}
 use Rattle.lane_laws.proofs.Grants.{lock_on, finish_on, forget_on}
@@ -25,17 +25,18 @@ use Rattle.recovery.proofs.Rest.{split_rest, more_behind}
 
 -- ---- the records of another lane
 
-other_lane : (lane other : ℕ) (r : Record) → other ≢ lane → is_in_lane lane r ≡ true → is_in_lane other r ≡ false
-other_lane lane other r apart h = lanes_apart lane other r h (grind (arith, apart))
+other_lane : (pieces : List (List Compact)) (lane other : ℕ) (r : Record) → other ≢ lane → (tells_lane lane r ≡ true) × Holds pieces r
+    → tells_lane other r ≡ false
+other_lane pieces lane other r apart h = lanes_apart lane other r (held_later pieces r h.1) h.0 (grind (arith, apart))
 
 module _ (K : Shape) (pieces : List (List Compact)) (lane : ℕ) (X Y : ℕ → List Record) (made : Made K pieces true lane X Y) where
   not_alone : (r : Record) → may_come true lane r ≡ true → ⊥
   not_alone r h = grind (arith, h)
 
-  its_own : (n : ℕ) (newer more : List Record) (r : Record) → Y n ≡ newer ++ r ∷ (more ++ X n) → is_in_lane lane r ≡ true
+  its_own : (n : ℕ) (newer more : List Record) (r : Record) → Y n ≡ newer ++ r ∷ (more ++ X n) → (tells_lane lane r ≡ true) × Holds pieces r
   its_own n newer more r e = elim (made.each n newer (more ++ X n) r e (more, refl)) [
     | inl o ↦ absurd (not_alone r o)
-    | inr s ↦ s.0
+    | inr s ↦ (s.0, s.2)
   ]
 
   shifted : (newer more : List Record) (r : Record) (old : List Record) → newer ++ r ∷ (more ++ old) ≡ (newer ++ r ∷ []) ++ (more ++ old)
@@ -44,7 +45,7 @@ module _ (K : Shape) (pieces : List (List Compact)) (lane : ℕ) (X Y : ℕ → 
   own_from : (n other : ℕ) → other ≢ lane → (more newer : List Record) → Y n ≡ newer ++ (more ++ X n) → own other (more ++ X n) ≡ own other (X n)
   own_from n other apart [] newer e = refl
   own_from n other apart (r ∷ more) newer e =
-      own_out other r (more ++ X n) (other_lane lane other r apart (its_own n newer more r e))
+      own_out other r (more ++ X n) (other_lane pieces lane other r apart (its_own n newer more r e))
       ∙ own_from n other apart more (newer ++ r ∷ []) (e ∙ shifted newer more r (X n))
 
   own_same : (n other : ℕ) → other ≢ lane → own other (Y n) ≡ own other (X n)
@@ -77,7 +78,7 @@ module _ (K : Shape) (b : Batch) (log log' : Sight) (I J : ℕ → Sight) (shape
   prepared_on : (txs : List Compact) (t : ℕ) → IsPreparedAt K b txs t log I → IsPreparedAt K b txs t log' J
   prepared_on txs t d = record {
     is_open = open_on _ txs t d.is_open;
-    locking = λ s c. lock_on b.lane b.number (I s).seen (J s).seen (shard_same s) (part K.shards s 0 txs) t (d.locking s c);
+    locking = λ s c. lock_on b.lane b.number (I s).seen (J s).seen (shard_same s) (part K s 0 txs) t (d.locking s c);
   }
 
   committed_on : (txs : List Compact) (t u : ℕ) (os : List Outcome) → IsCommittedAt K b txs t u os log I → IsCommittedAt K b txs t u os log' J
@@ -85,7 +86,7 @@ module _ (K : Shape) (b : Batch) (log log' : Sight) (I J : ℕ → Sight) (shape
     is_open = open_on _ txs t d.is_open;
     commit = log_record 7 ∙ d.commit;
     locks = λ s c. ap (λ o. entries (entries_in o)) (shard_record s 2) ∙ d.locks s c;
-    finishing = λ s c. finish_on b.lane b.number (I s).seen (J s).seen (shard_same s) (decisions os (part K.shards s 0 txs)) u (d.finishing s c);
+    finishing = λ s c. finish_on b.lane b.number (I s).seen (J s).seen (shard_same s) (decisions os (part K s 0 txs)) u (d.finishing s c);
   }
 
   discarded_on : (txs : List Compact) (t u : ℕ) → IsDiscardedAt K b txs t u log I → IsDiscardedAt K b txs t u log' J

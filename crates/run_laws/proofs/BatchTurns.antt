@@ -1,6 +1,6 @@
 -- A turn that brings an open batch to its end.
 use Rattle.std.proofs.Common.{◌≡◌, ℕ, ◌<◌, true, false, ◌==◌, List, [], ◌∷◌, ◌++◌, is_some, refl, sym, ap, ◌∙◌, subst, arith}
-use Rattle.cbdc_model.specs.Records.{Shape, Batch, Compact, Outcome, Record, Row, journal, record_of, is_in_lane, Prepare, Commit, Discard, Done}
+use Rattle.cbdc_model.specs.Records.{Shape, Batch, Compact, Outcome, Record, Row, journal, record_of, tells_lane, Prepare, Commit, Discard, Done}
 use Rattle.cbdc_model.specs.Slots.{Phase, slot, Idle, InLock, InFinish, InPrepare, InCommit, InDiscard}
 use Rattle.cbdc_model.specs.Ranges.{home_of}
 use Rattle.cbdc_model.specs.Due.{open_batch}
@@ -25,15 +25,15 @@ use Rattle.ledger_laws.proofs.Moves.{all_more}
 -- what a lane has, and the head of what it has newly
 pub own_append : (lane : ℕ) (A B : List Record) → own lane (A ++ B) ≡ own lane A ++ own lane B
 own_append lane [] B = refl
-own_append lane (r ∷ A) B = elim (is_in_lane lane r) as (λ t. is_in_lane lane r ≡ t → own lane (r ∷ (A ++ B)) ≡ own lane (r ∷ A) ++ own lane B) [
+own_append lane (r ∷ A) B = elim (tells_lane lane r) as (λ t. tells_lane lane r ≡ t → own lane (r ∷ (A ++ B)) ≡ own lane (r ∷ A) ++ own lane B) [
   | true ↦ λ t. own_in lane r (A ++ B) t ∙ ap (λ L. r ∷ L) (own_append lane A B) ∙ ap (λ L. L ++ own lane B) (sym (own_in lane r A t))
   | false ↦ λ t. own_out lane r (A ++ B) t ∙ own_append lane A B ∙ ap (λ L. L ++ own lane B) (sym (own_out lane r A t))
 ] refl
 
-pub own_head : (lane : ℕ) (J : List Record) (r : Record) (rest : List Record) → own lane J ≡ r ∷ rest → is_in_lane lane r ≡ true
+pub own_head : (lane : ℕ) (J : List Record) (r : Record) (rest : List Record) → own lane J ≡ r ∷ rest → tells_lane lane r ≡ true
 own_head lane [] r rest e = absurd (let z : [] ≡ r ∷ rest = e in cc)
-own_head lane (q ∷ J) r rest e = elim (is_in_lane lane q) as (λ t. is_in_lane lane q ≡ t → is_in_lane lane r ≡ true) [
-  | true ↦ λ t. subst (λ x. is_in_lane lane x ≡ true) (head_is q r (own lane J) rest (sym (own_in lane q J t) ∙ e)) t
+own_head lane (q ∷ J) r rest e = elim (tells_lane lane q) as (λ t. tells_lane lane q ≡ t → tells_lane lane r ≡ true) [
+  | true ↦ λ t. subst (λ x. tells_lane lane x ≡ true) (head_is q r (own lane J) rest (sym (own_in lane q J t) ∙ e)) t
   | false ↦ λ t. own_head lane J r rest (sym (own_out lane q J t) ∙ e)
 ] refl
   where

@@ -189,20 +189,20 @@ module _ (K : Shape) (minting : Minted) (P : Compact → Type 0) (some : 0 < K.s
           let next = next_in K minting P some old new kept kept' (shard_node K s) newer rest (Lock stamp c es) e h in
           let locked : has_lock (J (shard_node K s)) b ≡ true = ap is_some found in
           let is : lock_of (J (shard_node K s)) b ≡ es = ap entries_in found in
-          let whole : entries es ≡ part K.shards s 0 piece
-          = ap entries (sym is) ∙ (all_structure K minting P some new kept').lock_part s b locked ∙ ap (part K.shards s 0) its.2 in
-          let replied : lock_of (J (shard_node K s)) b ≡ answered rest b [] (part K.shards s 0 piece)
+          let whole : entries es ≡ part K s 0 piece
+          = ap entries (sym is) ∙ (all_structure K minting P some new kept').lock_part s b locked ∙ ap (part K s 0) its.2 in
+          let replied : lock_of (J (shard_node K s)) b ≡ answered rest b [] (part K s 0 piece)
           = is ∙ next.4 ∙ (λ i. answered rest (same i) [] (whole i)) in
           let free : has_lock rest b ≡ true → ⊥ =
           never_twice K minting P some old new kept kept' (shard_node K s) newer rest (Lock stamp c es) 2 b e h u in
           subst (λ ls. IsGood (reply_at ls (length lies.first))) (sym replied)
-          (good_reply rest b K.shards s (compact t) (λ x on. still x (on_has K.shards s (compact t).inputs x on) e h free) [] 0 (length lies.first)
-          lies.first lies.last (omega arith)
+          (good_reply rest b K s (compact t) (λ x on. still x (on_has K s (compact t).inputs x on) e h free) [] 0 (length lies.first) lies.first
+          lies.last (omega arith)
           (λ x on. refl)
           (λ x on. (lack_both x (joined (txs_all lies.front)) lies.first
-          (subst (AllLack x) lies.before (spare x (on_has K.shards s (compact t).inputs x on).0 L).0)).1))
+          (subst (AllLack x) lies.before (spare x (on_has K s (compact t).inputs x on).0 L).0)).1))
         where
-          still : (x : Digest) → (has (compact t).inputs x ≡ true) × (shard_of K.shards x ≡ s) → J (shard_node K s) ≡ newer ++ Lock stamp c es ∷ rest
+          still : (x : Digest) → (has (compact t).inputs x ≡ true) × (shard_of K x ≡ s) → J (shard_node K s) ≡ newer ++ Lock stamp c es ∷ rest
               → IsEnd (I (shard_node K s)) rest
               → (has_lock rest b ≡ true → ⊥) → status rest x ≡ Unspent
           still x on e h free =

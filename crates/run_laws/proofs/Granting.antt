@@ -25,7 +25,7 @@ use Rattle.run_laws.proofs.OpenLanes.{may_lock, may_finish, may_forget}
 -- ---- in checked journals
 
 pub concerned : (K : Shape) (txs : List Compact) (s : ℕ) → is_concerned K txs s ≡ true → Concerned K txs s
-concerned K txs s c = numbers s K.shards (is_no_part (part K.shards s 0 txs)) c
+concerned K txs s c = numbers s K.shards (is_no_part (part K s 0 txs)) c
   where
     numbers : (s n : ℕ) (a : Bool) → (nat_lt s n && not a) ≡ true → (s < n) × (a ≡ false)
     numbers s n a h = (grind (arith, h), grind (arith, h))
@@ -33,10 +33,10 @@ concerned K txs s c = numbers s K.shards (is_no_part (part K.shards s 0 txs)) c
 -- a coordinator's journal and those of the shards grant the calls of an open batch
 pub record Grants (K : Shape) (b : Batch) (txs : List Compact) (H : List Record) (S : ℕ → List Record) : Type 0 where
   pub lock : (s t : ℕ) (why : Refused) → is_concerned K txs s ≡ true → (slot H b.lane).phase ≡ InPrepare → record_of 6 H b ≡ Some (Prepare t b txs)
-      → next_lock (S s) b (part K.shards s 0 txs) t ≡ Refuse why → ⊥
+      → next_lock (S s) b (part K s 0 txs) t ≡ Refuse why → ⊥
   pub finish : (s t : ℕ) (os : List Outcome) (why : Refused) → is_concerned K txs s ≡ true → (slot H b.lane).phase ≡ InCommit
       → record_of 7 H b ≡ Some (Commit t b os)
-      → next_finish (S s) b (decisions os (part K.shards s 0 txs)) t ≡ Refuse why → ⊥
+      → next_finish (S s) b (decisions os (part K s 0 txs)) t ≡ Refuse why → ⊥
   pub forget : (s t : ℕ) (why : Refused) → is_concerned K txs s ≡ true → record_of 8 H b ≡ Some (Discard t b) → next_forget (S s) b t ≡ Refuse why → ⊥
 
 module _ (K : Shape) (minting : Minted) (P : Compact → Type 0) (some : 0 < K.shards) (later : List Row) (kept : Steady K minting P later) (b : Batch)
@@ -64,17 +64,17 @@ module _ (K : Shape) (minting : Minted) (P : Compact → Type 0) (some : 0 < K.s
     pub grants : Grants K b txs H (λ s. J (shard_node K s))
     grants = record {
       lock = λ s t why c phase stands e.
-          lock_grants (J (shard_node K s)) b (part K.shards s 0 txs) t
-          (subst (λ ts. MayLock (J (shard_node K s)) b (part K.shards s 0 ts) t) txs_are
+          lock_grants (J (shard_node K s)) b (part K s 0 txs) t
+          (subst (λ ts. MayLock (J (shard_node K s)) b (part K s 0 ts) t) txs_are
           (may_lock K minting P some later kept b home number (preparing phase) (ap is_some prepare) s (of_txs s c) t
           (subst (λ ts. record_of 6 H b ≡ Some (Prepare t b ts)) (sym txs_are) stands)
           (((all_structure K minting P some later kept).journals (home_of K b.lane)).prepared b phase number).1
           ((all_more K minting P some later kept (home_of K b.lane)).in_prepare b phase number).0)) why e;
       finish = λ s t os why c phase stands e.
           let named : os ≡ outcomes_of H b = sym (ap outcomes_in stands) in
-          finish_grants (J (shard_node K s)) b (decisions os (part K.shards s 0 txs)) t
-          (subst (λ q. MayFinish (J (shard_node K s)) b (decisions q (part K.shards s 0 txs)) t) (sym named)
-          (subst (λ ts. MayFinish (J (shard_node K s)) b (decisions (outcomes_of H b) (part K.shards s 0 ts)) t) txs_are
+          finish_grants (J (shard_node K s)) b (decisions os (part K s 0 txs)) t
+          (subst (λ q. MayFinish (J (shard_node K s)) b (decisions q (part K s 0 txs)) t) (sym named)
+          (subst (λ ts. MayFinish (J (shard_node K s)) b (decisions (outcomes_of H b) (part K s 0 ts)) t) txs_are
           (may_finish K minting P some later kept b home number (committing phase) (ap is_some prepare) s (of_txs s c) t
           (subst (λ q. record_of 7 H b ≡ Some (Commit t b q)) named stands)
           ((all_more K minting P some later kept (home_of K b.lane)).in_commit b phase number).0))) why e;
@@ -87,11 +87,11 @@ refused : (K : Shape) (b : Batch) (txs : List Compact) (log : Sight) (shards : �
     → IsCallFault K b txs log shards node (Refuses why) → ⊥
 refused K b txs log shards node why g (to_lock s t is c phase stands have e) =
     g.lock s t why c phase stands (lock_refuses (shards s).header.shape (shards s).capacity (shards s).seen
-    (record { batch = b; part = part K.shards s 0 txs; cause = t }) (next_lock (shards s).seen b (part K.shards s 0 txs) t) why e)
+    (record { batch = b; part = part K s 0 txs; cause = t }) (next_lock (shards s).seen b (part K s 0 txs) t) why e)
 refused K b txs log shards node why g (to_decide replies is phase have cause e) = late_refuses _ _ _ why e
 refused K b txs log shards node why g (to_finish s t os is c phase stands have e) =
-    g.finish s t os why c phase stands (stamp_refuses (next_finish (shards s).seen b (decisions os (part K.shards s 0 txs)) t)
-    (Finish (next_stamp (shards s).seen t) b (decisions os (part K.shards s 0 txs))) why e)
+    g.finish s t os why c phase stands (stamp_refuses (next_finish (shards s).seen b (decisions os (part K s 0 txs)) t)
+    (Finish (next_stamp (shards s).seen t) b (decisions os (part K s 0 txs))) why e)
 refused K b txs log shards node why g (to_discard cause is phase have latest e) = late_refuses _ _ _ why e
 refused K b txs log shards node why g (to_forget s t is c phase stands have e) =
     g.forget s t why c stands (stamp_refuses (next_forget (shards s).seen b t) (Forget (next_stamp (shards s).seen t) b) why e)

@@ -192,7 +192,7 @@ module _ (K : Shape) (m : Minted) (P : Compact → Type 0) (some : 0 < K.shards)
         shard_batch = open_batch (E (shard_node K j)) lane
 
         abbrev shard_part : List Entry
-        shard_part = part K.shards j 0 (txs_of (E (home_of K lane)) shard_batch)
+        shard_part = part K j 0 (txs_of (E (home_of K lane)) shard_batch)
 
         there_is : has_lock (E (shard_node K j)) shard_batch ≡ true → is_no_part shard_part ≡ false
         there_is h = not_empty (lock_of (E (shard_node K j)) shard_batch) shard_part (shard_facts.lock_part j shard_batch h)

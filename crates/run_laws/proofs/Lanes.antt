@@ -1,6 +1,6 @@
 -- What a record changes of the lanes' slots, and of what is kept for them.
 use Rattle.std.proofs.Common.{◌≡◌, ℕ, true, false, if◌then◌else◌, List, ◌∷◌, Some, length, refl, ◌∙◌, ap, ap₂}
-use Rattle.cbdc_model.specs.Records.{Batch, Compact, Answered, Record, is_in_lane, entries_in, txs_in, lock_of, txs_of, Lock, Prepare}
+use Rattle.cbdc_model.specs.Records.{Batch, Compact, Answered, Record, tells_lane, entries_in, txs_in, lock_of, txs_of, Lock, Prepare}
 use Rattle.cbdc_model.specs.Slots.{Phase, Slot, slot, Idle}
 use Rattle.cbdc_model.specs.Due.{open_batch}
 use Rattle.ledger_laws.proofs.ByKind.{lanes_apart, found_apart}
@@ -16,14 +16,14 @@ pub record IsSameLane (J N : List Record) (lane : ℕ) : Type 0 where
   pub txs : (n : ℕ) → txs_of N (record { lane = lane; number = n }) ≡ txs_of J (record { lane = lane; number = n })
 
 -- the others stay
-pub others_stay : (J : List Record) (r : Record) (lane other : ℕ) → (IsFirst r → ⊥) → is_in_lane lane r ≡ true → (lane ≡ other → ⊥)
+pub others_stay : (J : List Record) (r : Record) (lane other : ℕ) → (IsFirst r → ⊥) → tells_lane lane r ≡ true → (lane ≡ other → ⊥)
     → IsSameLane J (r ∷ J) other
 others_stay J r lane other later of apart =
-    let h : is_in_lane other r ≡ false = lanes_apart lane other r later of (other_number lane other apart) in
+    let h : tells_lane other r ≡ false = lanes_apart lane other r later of (other_number lane other apart) in
     record { slots = slot_stays r J other h; locks = λ n. ap entries_in (found_apart 2 r J _ h); txs = λ n. ap txs_in (found_apart 6 r J _ h) }
 
 -- the slot that a record leaves to its lane
-pub new_slot : (J : List Record) (r : Record) (lane : ℕ) → is_in_lane lane r ≡ true → slot (r ∷ J) lane ≡ slot_by lane (Some r)
+pub new_slot : (J : List Record) (r : Record) (lane : ℕ) → tells_lane lane r ≡ true → slot (r ∷ J) lane ≡ slot_by lane (Some r)
 new_slot J r lane of = slot_next r J lane ∙ ap (λ c. if c then slot_by lane (Some r) else slot J lane) of
 
 -- its own Lock and Prepare are found first

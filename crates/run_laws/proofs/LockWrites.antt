@@ -28,11 +28,11 @@ pub record HasPrepare (J : List Record) (b : Batch) : Type 0 where
   pub txs : List Compact
   pub stands : record_of 6 J b ≡ Some (Prepare cause b txs)
 
-some_part : (K : Shape) (s : ℕ) → is_no_part (part K.shards s 0 []) ≡ false → ⊥
+some_part : (K : Shape) (s : ℕ) → is_no_part (part K s 0 []) ≡ false → ⊥
 some_part K s h = let z : true ≡ false = h in cc
 
-pub has_prepare : (K : Shape) (J : List Record) (b : Batch) (s : ℕ) → is_no_part (part K.shards s 0 (txs_of J b)) ≡ false → HasPrepare J b
-has_prepare K J b s h = elim (record_of 6 J b) as (λ o. record_of 6 J b ≡ o → is_no_part (part K.shards s 0 (txs_in o)) ≡ false → HasPrepare J b) [
+pub has_prepare : (K : Shape) (J : List Record) (b : Batch) (s : ℕ) → is_no_part (part K s 0 (txs_of J b)) ≡ false → HasPrepare J b
+has_prepare K J b s h = elim (record_of 6 J b) as (λ o. record_of 6 J b ≡ o → is_no_part (part K s 0 (txs_in o)) ≡ false → HasPrepare J b) [
   | None ↦ λ e h. absurd (some_part K s h)
   | Some r ↦ λ e h. let f = found_prepare J b (ap is_some e) in record { cause = f.0; txs = f.1; stands = f.2 }
 ] refl h

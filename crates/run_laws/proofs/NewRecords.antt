@@ -1,7 +1,7 @@
 -- What a lane makes without a new Prepare, in kept journals, is of its open batch.
 use Rattle.std.proofs.Common.{◌≡◌, ◌⊎◌, inl, inr, ℕ, ◌-◌, ◌<◌, ◌≤◌, true, false, ◌&&◌, ◌==◌, List, [], ◌∷◌, ◌++◌, Contains, is_some, refl, sym, ap}
 use Rattle.std.proofs.Common.{◌∙◌, subst, arith, append_assoc}
-use Rattle.cbdc_model.specs.Records.{Shape, Batch, same_batch, Compact, Record, Row, journal, record_of, kind_of, is_of, is_in_lane, txs_in, txs_of}
+use Rattle.cbdc_model.specs.Records.{Shape, Batch, same_batch, Compact, Record, Row, journal, record_of, kind_of, is_of, tells_lane, txs_in, txs_of}
 use Rattle.cbdc_model.specs.Records.{lock_of, Genesis, Lock, Finish, Forget, Start, Prepare, Commit, Discard, Done, Upgrade, Carry, CarryStart, Seal}
 use Rattle.cbdc_model.specs.Slots.{slot}
 use Rattle.cbdc_model.specs.Grammar.{IsShard}
@@ -63,7 +63,7 @@ none_prepared lane other L h = refl
 -- what a lane made alone
 module _ (K : Shape) (lane : ℕ) (pieces : List (List Compact)) (I J : ℕ → List Record) (made : Made K pieces true lane I J) where
   pub its_own : (n : ℕ) (newer rest : List Record) (r : Record) → J n ≡ newer ++ r ∷ rest → IsEnd (I n) rest
-      → (is_in_lane lane r ≡ true) × Seen K J n rest r × Holds pieces r
+      → (tells_lane lane r ≡ true) × Seen K J n rest r × Holds pieces r
   its_own n newer rest r e h = elim (made.each n newer rest r e h) [
     | inl o ↦ absurd (not_alone lane r o)
     | inr s ↦ s
@@ -112,7 +112,7 @@ module _ (K : Shape) (minting : Minted) (P : Compact → Type 0) (some : 0 < K.s
         (next_ok K n (more ++ I n) below.0 r next, next_more K n (more ++ I n) below.0 below.1 r next)
 
     -- at the coordinator the lane's number stays
-    number_step : (r : Record) (past : List Record) → is_in_lane lane r ≡ true → Holds [] r → Next K (home_of K lane) past r
+    number_step : (r : Record) (past : List Record) → tells_lane lane r ≡ true → Holds [] r → Next K (home_of K lane) past r
         → (slot (r ∷ past) lane).number ≡ (slot past lane).number
     number_step (Genesis header hs) past l h next = absurd next
     number_step (Carry stamp header source hs numbers) past l h next = absurd next
@@ -202,7 +202,7 @@ module _ (K : Shape) (minting : Minted) (P : Compact → Type 0) (some : 0 < K.s
     of_open n newer rest r e h = by_kind r e (its_own K lane [] I J made n newer rest r e h).0 (its_own K lane [] I J made n newer rest r e h).2
         (new_next n newer rest r e h)
       where
-        by_kind : (r : Record) → J n ≡ newer ++ r ∷ rest → is_in_lane lane r ≡ true → Holds [] r → Next K n rest r → is_of B r ≡ true
+        by_kind : (r : Record) → J n ≡ newer ++ r ∷ rest → tells_lane lane r ≡ true → Holds [] r → Next K n rest r → is_of B r ≡ true
         by_kind (Prepare stamp c txs) e l k next = absurd (held_none txs k)
         by_kind (Commit stamp c os) e l k next = at_log c n newer rest (Commit stamp c os) l next.2 next.4 e h
         by_kind (Discard stamp c) e l k next = at_log c n newer rest (Discard stamp c) l next.2 next.4 e h

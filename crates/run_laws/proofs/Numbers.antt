@@ -71,8 +71,8 @@ first_slot K m n lane = elim (in_or_beyond n (K.coordinators + K.shards)) [
   where
     of_record : slot (first_record K m n ∷ []) lane ≡ no_slot
     of_record = elim (nat_lt n K.coordinators)
-        as (λ c. slot ((if c then Start (header_of K m.id n) else Genesis (header_of K m.id n) (on_shard K.shards (n - K.coordinators) m.hashes))
-        ∷ []) lane ≡ no_slot) [ true ↦ refl | false ↦ refl ]
+        as (λ c. slot ((if c then Start (header_of K m.id n) else Genesis (header_of K m.id n) (on_shard K (n - K.coordinators) m.hashes)) ∷ []) lane
+        ≡ no_slot) [ true ↦ refl | false ↦ refl ]
 
 -- the list's halves where one item stands between
 pub turned : {A : Type 0} (newer older : List A) (x : A) (done : List A) → reverse done ≡ newer ++ x ∷ older

@@ -48,21 +48,21 @@ module _ (K : Shape) (minting : Minted) (P : Compact → Type 0) (shards : 0 < K
     abbrev b : Batch
     b = open_batch (J (home_of K lane)) lane
 
-    by_prepare : s < K.shards → is_no_part (part K.shards s 0 (txs_of (J (home_of K lane)) b)) ≡ false → has_lock (J (shard_node K s)) b ≡ false
+    by_prepare : s < K.shards → is_no_part (part K s 0 (txs_of (J (home_of K lane)) b)) ≡ false → has_lock (J (shard_node K s)) b ≡ false
         → suc (before_lock K J s lane) ≤ 2 ^ 62
         → HasPrepare (J (home_of K lane)) b → LockFor K minting.id J (shard_node K s) b (before_lock K J s lane)
     by_prepare lt some missing in_time p =
         let cause : lock_cause K J lane ≡ p.cause = ap stamp_in p.stands in
         subst (λ c. LockFor K minting.id J (shard_node K s) b (max (last_stamp (J (shard_node K s))) c)) (sym cause)
         (lock_for K minting P shards later kept b p.cause p.txs p.stands refl s
-        (lt, subst (λ o. is_no_part (part K.shards s 0 (txs_in o)) ≡ false) p.stands some) missing
+        (lt, subst (λ o. is_no_part (part K s 0 (txs_in o)) ≡ false) p.stands some) missing
         (subst (λ c. suc (max (last_stamp (J (shard_node K s))) c) ≤ 2 ^ 62) cause in_time))
 
     by_rows : s < K.shards → lacks_lock K J s lane ≡ true → suc (before_lock K J s lane) ≤ 2 ^ 62
         → LockFor K minting.id J (shard_node K s) b (before_lock K J s lane)
     by_rows lt lacks in_time =
-        let f : (is_no_part (part K.shards s 0 (txs_of (J (home_of K lane)) b)) ≡ false) × (has_lock (J (shard_node K s)) b ≡ false)
-        = both_false (is_no_part (part K.shards s 0 (txs_of (J (home_of K lane)) b))) (has_lock (J (shard_node K s)) b) lacks in
+        let f : (is_no_part (part K s 0 (txs_of (J (home_of K lane)) b)) ≡ false) × (has_lock (J (shard_node K s)) b ≡ false)
+        = both_false (is_no_part (part K s 0 (txs_of (J (home_of K lane)) b))) (has_lock (J (shard_node K s)) b) lacks in
         by_prepare lt f.0 f.1 in_time (has_prepare K (J (home_of K lane)) b s f.0)
 
   lock_in : (v : World) → IsQuiet K minting P shards v → (s lane : ℕ) → s < K.shards → lacks_lock K (journals v) s lane ≡ true
@@ -157,7 +157,7 @@ module _ (K : Shape) (minting : Minted) (P : Compact → Type 0) (shards : 0 < K
         at_same h =
             let g : lacks_lock_by K (journals v (home_of K other)) (journals u (shard_node K s)) s other ≡ true
             = ap (λ home. lacks_lock_by K home (journals u (shard_node K s)) s other) (sym (same_home other l)) ∙ h in
-            lacking_less (is_no_part (part K.shards s 0 (txs_of (journals v (home_of K other)) (open_batch (journals v (home_of K other)) other))))
+            lacking_less (is_no_part (part K s 0 (txs_of (journals v (home_of K other)) (open_batch (journals v (home_of K other)) other))))
             (is_some (record_of 2 (journals v (shard_node K s)) (open_batch (journals v (home_of K other)) other)))
             (is_some (record_of 2 (journals u (shard_node K s)) (open_batch (journals v (home_of K other)) other)))
             (λ f. grown (open_batch (journals v (home_of K other)) other) f) g
@@ -166,9 +166,9 @@ module _ (K : Shape) (minting : Minted) (P : Compact → Type 0) (shards : 0 < K
     pub one_less : lacks_lock K (journals u) s lane ≡ false
     one_less =
         ap (λ home. lacks_lock_by K home (journals u (shard_node K s)) s lane) (same_home lane lt)
-        ∙ ap (λ c. not (is_no_part (part K.shards s 0 (txs_of (journals v (home_of K lane)) (open_batch (journals v (home_of K lane)) lane))))
-        && not c) found
-        ∙ not_all_lacking (is_no_part (part K.shards s 0 (txs_of (journals v (home_of K lane)) (open_batch (journals v (home_of K lane)) lane))))
+        ∙ ap (λ c. not (is_no_part (part K s 0 (txs_of (journals v (home_of K lane)) (open_batch (journals v (home_of K lane)) lane)))) && not c)
+        found
+        ∙ not_all_lacking (is_no_part (part K s 0 (txs_of (journals v (home_of K lane)) (open_batch (journals v (home_of K lane)) lane))))
       where
         found : is_some (record_of 2 (journals u (shard_node K s)) (open_batch (journals v (home_of K lane)) lane)) ≡ true
         found = ap (λ J. is_some (record_of 2 J (open_batch (journals v (home_of K lane)) lane))) step.here

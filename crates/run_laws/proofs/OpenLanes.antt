@@ -1,7 +1,7 @@
 -- In kept journals a lane that is not idle at its coordinator is open there as recovery wants it.
 use Rattle.std.proofs.Common.{◌≡◌, ◌⊎◌, inl, inr, ℕ, suc, ◌^◌, ◌<◌, ◌≤◌, Bool, true, false, ◌&&◌, not, nat_lt, List, [], ◌∷◌, ◌++◌, length, Option}
 use Rattle.std.proofs.Common.{Some, None, is_some, refl, sym, ap, ◌∙◌, subst, arith}
-use Rattle.cbdc_model.specs.Records.{Shape, Batch, Compact, Entry, Answered, Record, Row, journal, record_of, is_in_lane, lock_of, txs_of}
+use Rattle.cbdc_model.specs.Records.{Shape, Batch, Compact, Entry, Answered, Record, Row, journal, record_of, tells_lane, lock_of, txs_of}
 use Rattle.cbdc_model.specs.Records.{outcomes_of, stamp_in, stamp_of, Forget, Prepare, Commit, Discard, Done, Carry, CarryStart}
 use Rattle.cbdc_model.specs.Slots.{Phase, slot, slot_stamp, Idle, InLock, InFinish, InPrepare, InCommit, InDiscard}
 use Rattle.cbdc_model.specs.Grammar.{IsInGrammar}
@@ -61,7 +61,7 @@ module _ (K : Shape) (b : Batch) where
     pub others : (s kind : ℕ) → (kind ≡ 2) ⊎ (kind ≡ 3) ⊎ (kind ≡ 4) → is_concerned K (txs_of H b) s ≡ false → record_of kind (S s) b ≡ None
 
   abbrev LocksAre : List Record → (ℕ → List Record) → Type 0
-  LocksAre H S = (s : ℕ) → is_concerned K (txs_of H b) s ≡ true → entries (lock_of (S s) b) ≡ part K.shards s 0 (txs_of H b)
+  LocksAre H S = (s : ℕ) → is_concerned K (txs_of H b) s ≡ true → entries (lock_of (S s) b) ≡ part K s 0 (txs_of H b)
 
   abbrev Forgot : List Record → (ℕ → List Record) → Type 0
   Forgot H S = (s : ℕ) → is_concerned K (txs_of H b) s ≡ true → (slot (S s) b.lane).number ≡ b.number → (slot (S s) b.lane).phase ≡ Idle
@@ -69,11 +69,10 @@ module _ (K : Shape) (b : Batch) where
 
   -- how far the concerned shards may have come
   abbrev Locking : ℕ → List Record → (ℕ → List Record) → Type 0
-  Locking t H S = (s : ℕ) → is_concerned K (txs_of H b) s ≡ true → MayLock (S s) b (part K.shards s 0 (txs_of H b)) t
+  Locking t H S = (s : ℕ) → is_concerned K (txs_of H b) s ≡ true → MayLock (S s) b (part K s 0 (txs_of H b)) t
 
   abbrev Finishing : ℕ → List Record → (ℕ → List Record) → Type 0
-  Finishing t H S = (s : ℕ) → is_concerned K (txs_of H b) s ≡ true
-      → MayFinish (S s) b (decisions (outcomes_of H b) (part K.shards s 0 (txs_of H b))) t
+  Finishing t H S = (s : ℕ) → is_concerned K (txs_of H b) s ≡ true → MayFinish (S s) b (decisions (outcomes_of H b) (part K s 0 (txs_of H b))) t
 
   abbrev Forgetting : ℕ → List Record → (ℕ → List Record) → Type 0
   Forgetting t H S = (s : ℕ) → is_concerned K (txs_of H b) s ≡ true → MayForget (S s) b t
@@ -145,7 +144,7 @@ module _ (K : Shape) (minting : Minted) (P : Compact → Type 0) (some : 0 < K.s
 
     pub may_forget : is_concerned K (txs_of H b) s ≡ true → (t : ℕ) → record_of 8 H b ≡ Some (Discard t b) → MayForget (S s) b t
     may_forget c t stands = from (forget_answered K minting P some later kept b t stands s
-        (concerned s K.shards (is_no_part (part K.shards s 0 (txs_of H b))) c))
+        (concerned s K.shards (is_no_part (part K s 0 (txs_of H b))) c))
       where
         from : ForgetAnswered (S s) b t → MayForget (S s) b t
         from (forget_stale lt) = absurd (not_past lt)
@@ -185,13 +184,13 @@ module _ (K : Shape) (minting : Minted) (P : Compact → Type 0) (some : 0 < K.s
           (finished_here K minting P some later kept s b (subst (λ k. is_some (record_of k (S s) b) ≡ true) e h))
 
       others : (s kind : ℕ) → (kind ≡ 2) ⊎ (kind ≡ 3) ⊎ (kind ≡ 4) → is_concerned K (txs_of H b) s ≡ false → record_of kind (S s) b ≡ None
-      others s kind which c = elim (unconcerned s K.shards (is_no_part (part K.shards s 0 (txs_of H b))) c) [
+      others s kind which c = elim (unconcerned s K.shards (is_no_part (part K s 0 (txs_of H b))) c) [
         | inl le ↦ ap (λ L. record_of kind L b) (none_beyond K minting P later kept (shard_node K s) (omega (arith, le)))
         | inr empty ↦ elim (none_or_some (record_of kind (S s) b)) [
           | inl none ↦ none
           | inr h ↦
               let l : has_lock (S s) b ≡ true = lock_there s kind which h in
-              absurd (no_part (part K.shards s 0 (txs_of H b)) (lock_of (S s) b) ((all_structure K minting P some later kept).lock_part s b l) empty
+              absurd (no_part (part K s 0 (txs_of H b)) (lock_of (S s) b) ((all_structure K minting P some later kept).lock_part s b l) empty
               ((all_more K minting P some later kept (shard_node K s)).lock_some b l))
         ]
       ]
@@ -207,9 +206,9 @@ module _ (K : Shape) (minting : Minted) (P : Compact → Type 0) (some : 0 < K.s
         has_all = ap length (standing K minting P some later kept (home_of K b.lane) 7 b (Commit commit.0 b (outcomes_of H b)) commit.1).2
             ∙ outcomes_length _ K.shards 0 (txs_of H b)
 
-        pub locks : (s : ℕ) → is_concerned K (txs_of H b) s ≡ true → entries (lock_of (S s) b) ≡ part K.shards s 0 (txs_of H b)
+        pub locks : (s : ℕ) → is_concerned K (txs_of H b) s ≡ true → entries (lock_of (S s) b) ≡ part K s 0 (txs_of H b)
         locks s c = (all_structure K minting P some later kept).lock_part s b
-            (((in_order K minting P some later kept b).commit committed).1 s (concerned s K.shards (is_no_part (part K.shards s 0 (txs_of H b))) c)).0
+            (((in_order K minting P some later kept b).commit committed).1 s (concerned s K.shards (is_no_part (part K s 0 (txs_of H b))) c)).0
 
       pub forgot : (s : ℕ) → is_concerned K (txs_of H b) s ≡ true → (slot (S s) b.lane).number ≡ b.number → (slot (S s) b.lane).phase ≡ Idle
           → (is_some (record_of 4 (S s) b) ≡ true) × (stamp_in (record_of 4 (S s) b) ≡ slot_stamp (S s) b.lane)
@@ -222,7 +221,7 @@ module _ (K : Shape) (minting : Minted) (P : Compact → Type 0) (some : 0 < K.s
                 (sym (ap (λ q. q.phase) (slot_is (S s) b.lane ∙ ap (slot_by b.lane) e)) ∙ i)
           ] refl
         where
-          of_record : (r : Record) → last_of (S s) b.lane ≡ Some r → is_in_lane b.lane r ≡ true → (slot_by b.lane (Some r)).number ≡ b.number
+          of_record : (r : Record) → last_of (S s) b.lane ≡ Some r → tells_lane b.lane r ≡ true → (slot_by b.lane (Some r)).number ≡ b.number
               → (slot_by b.lane (Some r)).phase ≡ Idle
               → (is_some (record_of 4 (S s) b) ≡ true) × (stamp_in (record_of 4 (S s) b) ≡ slot_stamp (S s) b.lane)
           of_record (Forget stamp d) e l m i =
@@ -242,7 +241,7 @@ module _ (K : Shape) (minting : Minted) (P : Compact → Type 0) (some : 0 < K.s
 
     module _ (prepared : is_some (record_of 6 H b) ≡ true) (s : ℕ) (c : is_concerned K (txs_of H b) s ≡ true) where
       of_txs : Concerned K (txs_of H b) s
-      of_txs = concerned s K.shards (is_no_part (part K.shards s 0 (txs_of H b))) c
+      of_txs = concerned s K.shards (is_no_part (part K s 0 (txs_of H b))) c
 
       -- where it is idle behind the batch, the batch is discarded
       not_forgot : is_some (record_of 8 H b) ≡ false → (slot (S s) b.lane).number ≡ b.number → (slot (S s) b.lane).phase ≡ Idle → ⊥
@@ -258,11 +257,11 @@ module _ (K : Shape) (minting : Minted) (P : Compact → Type 0) (some : 0 < K.s
           ((all_dones K minting P some later kept (shard_node K s)).finish_here b p n)).1 undecided
 
       pub may_lock : (t : ℕ) → record_of 6 H b ≡ Some (Prepare t b (txs_of H b)) → is_some (record_of 7 H b) ≡ false
-          → is_some (record_of 8 H b) ≡ false → MayLock (S s) b (part K.shards s 0 (txs_of H b)) t
+          → is_some (record_of 8 H b) ≡ false → MayLock (S s) b (part K s 0 (txs_of H b)) t
       may_lock t stands undecided undone = from (lock_answered K minting P some later kept b t (txs_of H b) stands s of_txs.0)
         where
-          stored : (slot (S s) b.lane).number ≡ b.number → entries (lock_of (S s) b) ≡ part K.shards s 0 (txs_of H b) → (p : Phase)
-              → (slot (S s) b.lane).phase ≡ p → MayLock (S s) b (part K.shards s 0 (txs_of H b)) t
+          stored : (slot (S s) b.lane).number ≡ b.number → entries (lock_of (S s) b) ≡ part K s 0 (txs_of H b) → (p : Phase)
+              → (slot (S s) b.lane).phase ≡ p → MayLock (S s) b (part K s 0 (txs_of H b)) t
           stored n e Idle p = absurd (not_forgot undone n p)
           stored n e InLock p = inr (n, p, e)
           stored n e InFinish p = absurd (not_finished undecided n p)
@@ -270,14 +269,14 @@ module _ (K : Shape) (minting : Minted) (P : Compact → Type 0) (some : 0 < K.s
           stored n e InCommit p = absurd (no_prepare ((all_phases K minting P some later kept (shard_node K s)).commit_here b p n).0)
           stored n e InDiscard p = absurd (no_prepare ((all_phases K minting P some later kept (shard_node K s)).discard_here b p n).0)
 
-          from : LockAnswered (S s) b (part K.shards s 0 (txs_of H b)) t → MayLock (S s) b (part K.shards s 0 (txs_of H b)) t
+          from : LockAnswered (S s) b (part K s 0 (txs_of H b)) t → MayLock (S s) b (part K s 0 (txs_of H b)) t
           from (lock_stale (inl lt)) = absurd (not_past number s lt)
           from (lock_stale (inr (n, i))) = absurd (not_forgot undone n i)
           from (lock_stored n e) = stored n e (slot (S s) b.lane).phase refl
           from (lock_appends lt i older) = inl (lt, i, older)
 
       pub may_finish : (t : ℕ) → record_of 7 H b ≡ Some (Commit t b (outcomes_of H b)) → is_some (record_of 8 H b) ≡ false
-          → MayFinish (S s) b (decisions (outcomes_of H b) (part K.shards s 0 (txs_of H b))) t
+          → MayFinish (S s) b (decisions (outcomes_of H b) (part K s 0 (txs_of H b))) t
       may_finish t stands undone = subst (λ es. MayFinish (S s) b (decisions (outcomes_of H b) es) t) (locks prepared (ap is_some stands) s c)
           (from (finish_answered K minting P some later kept b t (outcomes_of H b) stands s of_txs))
         where

@@ -1,7 +1,7 @@
 -- What a lane made leaves of the other lanes.
 use Rattle.std.proofs.Common.{◌≡◌, ◌≢◌, inl, inr, ℕ, Bool, true, false, ◌==◌, List, [], ◌∷◌, ◌++◌, if◌then◌else◌, refl, sym, ap, ◌∙◌, append_assoc}
 use Rattle.std.proofs.Common.{arith}
-use Rattle.cbdc_model.specs.Records.{Shape, Compact, Record, is_in_lane, Prepare}
+use Rattle.cbdc_model.specs.Records.{Shape, Compact, Record, tells_lane, Prepare}
 use Rattle.cbdc_model.specs.Slots.{slot}
 use Rattle.cbdc_model.specs.Lanes.{may_come, Made}
 use Rattle.cbdc_model.specs.Waves.{prepared}
@@ -23,12 +23,12 @@ passed true x y h = absurd (let z : true ≡ false = h in cc)
 passed false x y h = refl
 
 -- a record of the lane leaves the slot of another
-slot_step : (lane other : ℕ) (r : Record) (past : List Record) → (IsFirst r → ⊥) → other ≢ lane → is_in_lane lane r ≡ true
+slot_step : (lane other : ℕ) (r : Record) (past : List Record) → (IsFirst r → ⊥) → other ≢ lane → tells_lane lane r ≡ true
     → slot (r ∷ past) other ≡ slot past other
 slot_step lane other r past later apart h = slot_stays r past other (lanes_apart lane other r later h (unlike lane other apart))
 
 -- and is no Prepare of another
-prepared_step : (lane other : ℕ) (r : Record) (past : List Record) → other ≢ lane → is_in_lane lane r ≡ true
+prepared_step : (lane other : ℕ) (r : Record) (past : List Record) → other ≢ lane → tells_lane lane r ≡ true
     → prepared other (r ∷ past) ≡ prepared other past
 prepared_step lane other (Prepare stamp b txs) past apart h =
     passed (b.lane == other) (txs ∷ prepared other past) (prepared other past) (elsewhere b.lane lane other apart h)
@@ -39,7 +39,7 @@ module _ (K : Shape) (pieces : List (List Compact)) (lane : ℕ) (I J : ℕ → 
   not_alone r h = grind (arith, h)
 
   -- each new record is the lane's
-  its_own : (n : ℕ) (newer more : List Record) (r : Record) → J n ≡ newer ++ r ∷ (more ++ I n) → is_in_lane lane r ≡ true
+  its_own : (n : ℕ) (newer more : List Record) (r : Record) → J n ≡ newer ++ r ∷ (more ++ I n) → tells_lane lane r ≡ true
   its_own n newer more r e = elim (made.each n newer (more ++ I n) r e (more, refl)) [
     | inl o ↦ absurd (not_alone r o)
     | inr s ↦ s.0

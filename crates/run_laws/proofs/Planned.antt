@@ -3,7 +3,7 @@
 use Rattle.std.proofs.Common.{◌≡◌, inl, inr, ℕ, ◌+◌, ◌-◌, ◌*◌, ◌<◌, ◌≤◌, Bool, true, false, ◌&&◌, ◌==◌, List, [], ◌∷◌, ◌++◌, length, reverse, Some}
 use Rattle.std.proofs.Common.{is_some, refl, sym, ap, ◌∙◌, subst, arith, append_assoc}
 use Rattle.std.specs.List.{filter}
-use Rattle.cbdc_model.specs.Records.{Shape, Batch, Compact, Entry, Answered, Outcome, Record, Row, journal, record_of, is_in_lane, is_of, txs_in}
+use Rattle.cbdc_model.specs.Records.{Shape, Batch, Compact, Entry, Answered, Outcome, Record, Row, journal, record_of, tells_lane, is_of, txs_in}
 use Rattle.cbdc_model.specs.Records.{lock_of, txs_of, Lock, Finish, Forget, Prepare, Commit, Discard, Done, Upgrade, Seal}
 use Rattle.cbdc_model.specs.Slots.{slot, InLock, InFinish, InPrepare, InCommit, InDiscard}
 use Rattle.cbdc_model.specs.Replies.{entries}
@@ -67,7 +67,7 @@ module _ (K : Shape) (m : Minted) (P : Compact → Type 0) (some : 0 < K.shards)
         ≤ total s.taken (E n) + sum_below (λ lane. B n lane (slot V lane).number) (K.coordinators * K.lanes)
 
     -- a record that weighs no more, with what is kept behind it, than what was kept and the batches that come with it
-    within_step : (n : ℕ) (rest : List Record) (r : Record) (lane : ℕ) → (IsFirst r → ⊥) → lane < K.coordinators * K.lanes → is_in_lane lane r ≡ true
+    within_step : (n : ℕ) (rest : List Record) (r : Record) (lane : ℕ) → (IsFirst r → ⊥) → lane < K.coordinators * K.lanes → tells_lane lane r ≡ true
         → s.taken r + kept_for s (r ∷ rest) lane + B n lane (slot rest lane).number ≤ kept_for s rest lane + B n lane (slot (r ∷ rest) lane).number
         → IsWithin n rest → IsWithin n (r ∷ rest)
     within_step n rest r lane new lt of own h =
@@ -83,13 +83,13 @@ module _ (K : Shape) (m : Minted) (P : Compact → Type 0) (some : 0 < K.shards)
 
     -- the batch of a Lock that is still to come at a shard, by its Prepare
     module _ (j t : ℕ) (b : Batch) (txs : List Compact) (V : List Record) (lt : j < K.shards) (lane : b.lane < K.coordinators * K.lanes)
-        (found : record_of 6 (X (home_of K b.lane)) b ≡ Some (Prepare t b txs)) (concerned : is_no_part (part K.shards j 0 txs) ≡ false)
+        (found : record_of 6 (X (home_of K b.lane)) b ≡ Some (Prepare t b txs)) (concerned : is_no_part (part K j 0 txs) ≡ false)
         (h : IsEnd (E (shard_node K j)) V) (v : IsEnd V (X (shard_node K j))) (low : (slot V b.lane).number < b.number) where
       abbrev lock_node : ℕ
       lock_node = shard_node K j
 
       abbrev entries_here : List Entry
-      entries_here = part K.shards j 0 txs
+      entries_here = part K j 0 txs
 
       lock_fine : Fine V
       lock_fine = fine K m P some after new lock_node V (end_trans (first_of K m lock_node) (E lock_node) V (begins lock_node) h) v
@@ -116,7 +116,7 @@ module _ (K : Shape) (m : Minted) (P : Compact → Type 0) (some : 0 < K.shards)
           let same : record_of 6 (E (home_of K b.lane)) b ≡ Some (Prepare t b txs) =
           found_in K m P some after new (home_of K b.lane) (E (home_of K b.lane)) (grows (home_of K b.lane)) 6 b prep ∙ found in
           let held : txs_of (E (home_of K b.lane)) b ≡ txs = ap txs_in same in
-          let c : Concerned K (txs_of (E (home_of K b.lane)) b) j = (lt, ap (λ ts. is_no_part (part K.shards j 0 ts)) held ∙ concerned) in
+          let c : Concerned K (txs_of (E (home_of K b.lane)) b) j = (lt, ap (λ ts. is_no_part (part K j 0 ts)) held ∙ concerned) in
           let no_lock : has_lock (E lock_node) b ≡ true
           → ⊥ = λ f. (let le : b.number ≤ (slot V b.lane).number = lock_fine.ok.lock_below b (still_there 2 f) in
           absurd (omega (arith, le, low))) in
@@ -303,9 +303,9 @@ module _ (K : Shape) (m : Minted) (P : Compact → Type 0) (some : 0 < K.shards)
         found_in K m P some after new (home_of K b.lane) (seen.lists (home_of K b.lane)) (seen.ends (home_of K b.lane)) 6 b there in
         let prep = prepare_stands (X (home_of K b.lane)) b (subst (λ o. is_some o ≡ true) same there) in
         let txs : List Compact = txs_of (X (home_of K b.lane)) b in
-        let is : entries es ≡ part K.shards j 0 (txs_of (X (home_of K b.lane)) b)
-        = seen.caused.1 j refl ∙ ap (λ L. part K.shards j 0 (txs_in (record_of 6 L b))) away ∙ ap (λ o. part K.shards j 0 (txs_in o)) same in
-        let concerned : is_no_part (part K.shards j 0 (txs_of (X (home_of K b.lane)) b)) ≡ false = not_empty es _ is next.5 in
+        let is : entries es ≡ part K j 0 (txs_of (X (home_of K b.lane)) b)
+        = seen.caused.1 j refl ∙ ap (λ L. part K j 0 (txs_in (record_of 6 L b))) away ∙ ap (λ o. part K j 0 (txs_in o)) same in
+        let concerned : is_no_part (part K j 0 (txs_of (X (home_of K b.lane)) b)) ≡ false = not_empty es _ is next.5 in
         let v : IsEnd rest (X (shard_node K j)) = (newer ++ Lock t b es ∷ [], e ∙ past newer rest (Lock t b es)) in
         let room = lock_room j prep.0 b (txs_of (X (home_of K b.lane)) b) rest lt lane prep.1 concerned h v next.3 in
         let number : (slot (Lock t b es ∷ rest) b.lane).number ≡ b.number =
@@ -319,10 +319,10 @@ module _ (K : Shape) (m : Minted) (P : Compact → Type 0) (some : 0 < K.shards)
         ∙ ap (λ k. s.kept InLock k (length (txs_of (Lock t b es ∷ rest) b))) long in
         let weighs = fair.lock (shard_node K j) t (length (txs_of (Lock t b es ∷ rest) b)) b es in
         let first : s.coming (lock_at (shard_node K j) (entries es))
-        ≡ s.coming (lock_at (shard_node K j) (part K.shards j 0 (txs_of (X (home_of K b.lane)) b))) =
-        ap (λ q. s.coming (lock_at (shard_node K j) q)) is in
+        ≡ s.coming (lock_at (shard_node K j) (part K j 0 (txs_of (X (home_of K b.lane)) b))) = ap (λ q. s.coming (lock_at (shard_node K j) q)) is
+        in
         let second : s.coming (finish_at (shard_node K j) (length (entries es)))
-        ≡ s.coming (finish_at (shard_node K j) (length (part K.shards j 0 (txs_of (X (home_of K b.lane)) b)))) =
+        ≡ s.coming (finish_at (shard_node K j) (length (part K j 0 (txs_of (X (home_of K b.lane)) b)))) =
         ap (λ q. s.coming (finish_at (shard_node K j) (length q))) is in
         omega (arith, room, up, none, keeps, weighs, first, second)
 

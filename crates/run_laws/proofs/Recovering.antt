@@ -60,10 +60,10 @@ module _ (K : Shape) (minting : Minted) (P : Compact → Type 0) (shards : 0 < K
           ((all_dones K minting P shards later kept (b.lane / K.lanes)).past_done b (ap is_some p.stands) less)
       by_number p lt (inr e) =
           let same : open_batch (J (b.lane / K.lanes)) b.lane ≡ b = λ i. record { lane = b.lane; number = e i } in
-          let f : (not (is_no_part (part K.shards s 0 (txs_of (J (b.lane / K.lanes)) b))) && not (has_lock (J (shard_node K s)) b)) ≡ false
-          = subst (λ d. (not (is_no_part (part K.shards s 0 (txs_of (J (b.lane / K.lanes)) d))) && not (has_lock (J (shard_node K s)) d)) ≡ false)
-          same (none b.lane lt s c.0) in
-          not_lacking (is_no_part (part K.shards s 0 (txs_of (J (b.lane / K.lanes)) b))) (has_lock (J (shard_node K s)) b) f c.1
+          let f : (not (is_no_part (part K s 0 (txs_of (J (b.lane / K.lanes)) b))) && not (has_lock (J (shard_node K s)) b)) ≡ false
+          = subst (λ d. (not (is_no_part (part K s 0 (txs_of (J (b.lane / K.lanes)) d))) && not (has_lock (J (shard_node K s)) d)) ≡ false) same
+          (none b.lane lt s c.0) in
+          not_lacking (is_no_part (part K s 0 (txs_of (J (b.lane / K.lanes)) b))) (has_lock (J (shard_node K s)) b) f c.1
 
       less_or_same : (m n : ℕ) → m ≤ n → (m < n) ⊎ (n ≡ m)
       less_or_same m n le = grind arith

@@ -287,10 +287,10 @@ module _ (K : Shape) (m : Minted) (sound : FullTx → Bool) (capacity : ℕ → 
         lock_inside = omega (arith, concerned.0)
 
         abbrev es : List Answered
-        es = answered front b [] (part K.shards j 0 txs)
+        es = answered front b [] (part K j 0 txs)
 
-        es_are : entries es ≡ part K.shards j 0 txs
-        es_are = entries_are front b (part K.shards j 0 txs) []
+        es_are : entries es ≡ part K j 0 txs
+        es_are = entries_are front b (part K j 0 txs) []
 
         lock_no_later : (slot front b.lane).number < b.number
         lock_no_later =
@@ -301,26 +301,25 @@ module _ (K : Shape) (m : Minted) (sound : FullTx → Bool) (capacity : ℕ → 
 
         with_lock : (s : Scale) (fair : Fair s) (V : List Record) → IsEnd (E lock_node) V → IsEnd V (X lock_node) → (slot V b.lane).number < b.number
             → budget K E a.batches s lock_node b.lane (slot V b.lane).number
-            + (s.coming (lock_at lock_node (part K.shards j 0 txs))
-            + (s.coming (finish_at lock_node (length (part K.shards j 0 txs))) + s.coming (forget_at lock_node)))
+            + (s.coming (lock_at lock_node (part K j 0 txs))
+            + (s.coming (finish_at lock_node (length (part K j 0 txs))) + s.coming (forget_at lock_node)))
             ≤ all_of K E a.batches s lock_node b.lane
         with_lock s fair V h v lt' =
             let adds = lock_room K m Any some lanes before after old new grows a.batches plan s fair j t b txs V concerned.0 lt found concerned.1 h v
             lt' in
             omega (arith, adds, budget_top K E a.batches s lock_node b.lane b.number)
 
-        has_lock_room : used_of front + need_of K front (lock_record front (record { batch = b; part = part K.shards j 0 txs; cause = t }))
+        has_lock_room : used_of front + need_of K front (lock_record front (record { batch = b; part = part K j 0 txs; cause = t }))
             ≤ capacity lock_node
         has_lock_room =
             let one = with_one bytes bytes_fair lock_node front b.lane
-            (bytes.coming (lock_at lock_node (part K.shards j 0 txs))
-            + (bytes.coming (finish_at lock_node (length (part K.shards j 0 txs))) + bytes.coming (forget_at lock_node))) lock_inside lt h v
+            (bytes.coming (lock_at lock_node (part K j 0 txs))
+            + (bytes.coming (finish_at lock_node (length (part K j 0 txs))) + bytes.coming (forget_at lock_node))) lock_inside lt h v
             (with_lock bytes bytes_fair front h v lock_no_later) in
             let weighs = bytes_fair.lock lock_node (next_stamp front t) 0 b es in
-            let first : bytes.coming (lock_at lock_node (entries es)) ≡ bytes.coming (lock_at lock_node (part K.shards j 0 txs)) =
+            let first : bytes.coming (lock_at lock_node (entries es)) ≡ bytes.coming (lock_at lock_node (part K j 0 txs)) =
             ap (λ q. bytes.coming (lock_at lock_node q)) es_are in
-            let second : bytes.coming (finish_at lock_node (length (entries es)))
-            ≡ bytes.coming (finish_at lock_node (length (part K.shards j 0 txs))) =
+            let second : bytes.coming (finish_at lock_node (length (entries es))) ≡ bytes.coming (finish_at lock_node (length (part K j 0 txs))) =
             ap (λ q. bytes.coming (finish_at lock_node (length q))) es_are in
             omega (
               arith,
@@ -335,7 +334,7 @@ module _ (K : Shape) (m : Minted) (sound : FullTx → Bool) (capacity : ℕ → 
               a.room lock_node lock_inside,
             )
 
-        lock_stamp : stamp_of (lock_record front (record { batch = b; part = part K.shards j 0 txs; cause = t })) ≤ 2 ^ 62
+        lock_stamp : stamp_of (lock_record front (record { batch = b; part = part K j 0 txs; cause = t })) ≤ 2 ^ 62
         lock_stamp =
             let few = fewer lock_node b.lane lock_inside lt
             (omega (arith, with_lock ones ones_fair (X lock_node) (grows lock_node) (end_self (X lock_node)) low)) in
@@ -343,7 +342,7 @@ module _ (K : Shape) (m : Minted) (sound : FullTx → Bool) (capacity : ℕ → 
             omega (arith, found_most K m Any some before after old new grows top tops (home_of K b.lane) 6 b, ap stamp_in found) in
             omega (arith, few, cause, front_most K m Any some before after old new grows top tops lock_node front h v, a.stamps)
 
-        pub lock_core : HasRoom K capacity (shard_node K j) front (lock_record front (record { batch = b; part = part K.shards j 0 txs; cause = t }))
+        pub lock_core : HasRoom K capacity (shard_node K j) front (lock_record front (record { batch = b; part = part K j 0 txs; cause = t }))
         lock_core = (has_lock_room, lock_stamp)
 
 -- ---- where every lane is idle
@@ -414,7 +413,7 @@ lock_room_law K m sound capacity files E X b t txs s front limits a way lt found
     → ((lane : ℕ) → lane < K.coordinators * K.lanes → (left : List (List Compact)) × HasBatchesLeft K sound files e X lane left)
     → record_of 6 (X (home_of K b.lane)) b ≡ Some (Prepare t b txs) → (slot (X (shard_node K s)) b.lane).number < b.number
     → IsEnd (e (shard_node K s)) front → IsEnd front (X (shard_node K s))
-    → HasRoom K capacity (shard_node K s) front (lock_record front (record { batch = b; part = part K.shards s 0 txs; cause = t })))
+    → HasRoom K capacity (shard_node K s) front (lock_record front (record { batch = b; part = part K s 0 txs; cause = t })))
     (λ i k. way.old.history.journals_are k i)
     (subst (λ x. Ample K sound capacity files (λ k. journal k (way.old.later ++ first_rows K m))
     → ((n : ℕ) → IsEnd (journal n (way.old.later ++ first_rows K m)) (x n))
@@ -422,7 +421,7 @@ lock_room_law K m sound capacity files E X b t txs s front limits a way lt found
     → (left : List (List Compact)) × HasBatchesLeft K sound files (λ k. journal k (way.old.later ++ first_rows K m)) x lane left)
     → record_of 6 (x (home_of K b.lane)) b ≡ Some (Prepare t b txs) → (slot (x (shard_node K s)) b.lane).number < b.number
     → IsEnd (journal (shard_node K s) (way.old.later ++ first_rows K m)) front → IsEnd front (x (shard_node K s))
-    → HasRoom K capacity (shard_node K s) front (lock_record front (record { batch = b; part = part K.shards s 0 txs; cause = t })))
+    → HasRoom K capacity (shard_node K s) front (lock_record front (record { batch = b; part = part K s 0 txs; cause = t })))
     (λ i k. way.new.history.journals_are k i)
     (λ a grows under found low h v. lock_core K m sound capacity files limits way.old.later (rows_of K m E way.old) a way.new.later
     (rows_of K m X way.new) grows under b t txs s front lt found concerned low h v))

@@ -18,15 +18,15 @@ one_in (x ∷ []) e = (x, refl)
 one_in (x ∷ (y ∷ xs)) e = absurd (omega arith)
 
 -- all hashes lie on the one shard
-on_it : (xs : List Digest) → on_shard 1 0 xs ≡ xs
+on_it : (xs : List Digest) → on_shard one_of_each 0 xs ≡ xs
 on_it [] = refl
 on_it (x ∷ xs) =
-    let below : shard_of 1 x < 1 = shard_of-lt 1 x (omega arith) in
-    let here : shard_of 1 x ≡ 0 = omega arith in
+    let below : shard_of one_of_each x < 1 = shard_of-lt one_of_each x (omega arith) in
+    let here : shard_of one_of_each x ≡ 0 = omega arith in
     rw here (ap (λ l. x ∷ l) (on_it xs))
 
 part_one : (k : Compact) (x : Digest) → k.inputs ≡ x ∷ []
-    → part 1 0 0 (k ∷ []) ≡ record { place = 0; id = k.id; inputs = k.inputs; outputs = k.outputs } ∷ []
+    → part one_of_each 0 0 (k ∷ []) ≡ record { place = 0; id = k.id; inputs = k.inputs; outputs = k.outputs } ∷ []
 part_one k x e = rw (on_it k.inputs, on_it k.outputs, e) refl
 
 -- a list of one is cut into one piece

@@ -48,7 +48,7 @@ module _ (K : Shape) (m : Minted) (P : Compact → Type 0) (s kind : ℕ) (b : B
 
   first : count_of kind (first_record K m (shard_node K s) ∷ []) b ≡ 0
   first = elim (nat_lt (shard_node K s) K.coordinators) as (λ c. count_of kind ((if c then Start (header_of K m.id (shard_node K s))
-      else Genesis (header_of K m.id (shard_node K s)) (on_shard K.shards (shard_node K s - K.coordinators) m.hashes)) ∷ []) b ≡ 0) [
+      else Genesis (header_of K m.id (shard_node K s)) (on_shard K (shard_node K s - K.coordinators) m.hashes)) ∷ []) b ≡ 0) [
         | true ↦ none_of (5 == kind)
         | false ↦ none_of (1 == kind)
       ]

@@ -115,7 +115,7 @@ lock_behind L b p cause q e = behind b.number (slot L b.lane).number ((b.number 
     (passed (is_stale L b) (Stale (slot L b.lane).number) (lock_rest L b p cause) q e) (lock_new L b p cause q e).0
 
 abbrev part_call : Shape → Batch → List Compact → ℕ → ℕ → LockCall
-part_call K b txs s t = record { batch = b; part = part K.shards s 0 txs; cause = t }
+part_call K b txs s t = record { batch = b; part = part K s 0 txs; cause = t }
 
 -- ---- each call
 
@@ -212,20 +212,20 @@ module _ (K : Shape) (lane : ℕ) (next : List Compact → Type 0) (J : ℕ → 
     abbrev c : LockCall
     c = part_call K b txs s t
 
-    appends : (f : NodeFault) (q : RepliesAt) → planned (J node) b (part K.shards s 0 txs) t ≡ Append q
+    appends : (f : NodeFault) (q : RepliesAt) → planned (J node) b (part K s 0 txs) t ≡ Append q
         → IsAnswered true (lock_by (Append q) K (capacity node) (J node) c) now f → Stop f
     appends f q e h = stops now same q.at (used_of (J node)) (need_of K (J node) (lock_record (J node) c)) (replied_of q) (lock_record (J node) c)
-        (next_lock b t txs s lane_is at concerned phase stands have (lock_behind (J node) b (part K.shards s 0 txs) t q e) refl)
-        (ap (λ x. x.at) (lock_new (J node) b (part K.shards s 0 txs) t q e).1) refl refl f h
+        (next_lock b t txs s lane_is at concerned phase stands have (lock_behind (J node) b (part K s 0 txs) t q e) refl)
+        (ap (λ x. x.at) (lock_new (J node) b (part K s 0 txs) t q e).1) refl refl f h
 
     locks : (f : NodeFault) → ((why : Refused) → Refuses why ≡ f → ⊥) → IsAnswered true (lock_due K (capacity node) c None (J node)) now f → Stop f
     locks (Broken since) never h = failed now same h
     locks (Refuses why) never h = never why refl
     locks (ClockEnd end) never h =
-        let a = lock_appends K (capacity node) (J node) c (planned (J node) b (part K.shards s 0 txs) t) (ClockEnd end) never h in
+        let a = lock_appends K (capacity node) (J node) c (planned (J node) b (part K s 0 txs) t) (ClockEnd end) never h in
         appends (ClockEnd end) a.0 a.1 (subst (λ p. IsAnswered true (lock_by p K (capacity node) (J node) c) now (ClockEnd end)) a.1 h)
     locks (Full u n m) never h =
-        let a = lock_appends K (capacity node) (J node) c (planned (J node) b (part K.shards s 0 txs) t) (Full u n m) never h in
+        let a = lock_appends K (capacity node) (J node) c (planned (J node) b (part K s 0 txs) t) (Full u n m) never h in
         appends (Full u n m) a.0 a.1 (subst (λ p. IsAnswered true (lock_by p K (capacity node) (J node) c) now (Full u n m)) a.1 h)
     locks DiskFault never h = failed now same h
     locks Memory never h = tt
@@ -394,10 +394,10 @@ module _ (K : Shape) (m : Minted) (logs shards : ℕ → Sight) (limits : IsWith
             subst StopAt (sym is) (at_log (asked_log InPrepare phase have) (reply_cause K replies) (commit_record K b.lane replies log.seen)
             (subst (λ x. x ≤ top) (sym cause) (latest_low 2 b)) h)
         go (to_finish s t os is c phase stands have h) =
-            subst StopAt (sym is) (at_shard s t (next_finish (shards s).seen b (decisions os (part K.shards s 0 txs)) t)
-            (Finish (next_stamp (shards s).seen t) b (decisions os (part K.shards s 0 txs))) c (asked InCommit s c phase have)
+            subst StopAt (sym is) (at_shard s t (next_finish (shards s).seen b (decisions os (part K s 0 txs)) t)
+            (Finish (next_stamp (shards s).seen t) b (decisions os (part K s 0 txs))) c (asked InCommit s c phase have)
             (cause_low 7 t (Commit t b os) stands refl)
-            (λ u e. (finish_new (shards s).seen b (decisions os (part K.shards s 0 txs)) t u e).1) h)
+            (λ u e. (finish_new (shards s).seen b (decisions os (part K s 0 txs)) t u e).1) h)
         go (to_discard cause is phase have latest h) =
             subst StopAt (sym is) (at_log (asked_log InCommit phase have) cause (discard_record b.lane cause log.seen)
             (subst (λ x. x ≤ top) (sym latest) (latest_low 3 b)) h)

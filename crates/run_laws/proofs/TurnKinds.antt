@@ -1,7 +1,7 @@
 -- What a driver says of a turn, taken to the journals of all nodes.
 use Rattle.std.proofs.Common.{◌≡◌, ◌⊎◌, inl, inr, ℕ, ◌<◌, true, false, List, [], ◌∷◌, refl, sym, ap, ◌∙◌, subst}
 use Rattle.cbdc_types.specs.declared.calls.NodeFault.{NodeFault}
-use Rattle.cbdc_model.specs.Records.{Shape, Batch, Compact, Outcome, Record, is_in_lane, Prepare}
+use Rattle.cbdc_model.specs.Records.{Shape, Batch, Compact, Outcome, Record, tells_lane, Prepare}
 use Rattle.cbdc_model.specs.Ranges.{home_of}
 use Rattle.cbdc_model.specs.Lanes.{Made}
 use Rattle.cbdc_model.specs.Waves.{prepared}
@@ -39,18 +39,18 @@ taken_law K lane logs shards logs' shards' elsewhere = (
 pub ends_law : EndsLaw
 ends_law K pieces lane logs shards logs' shards' home turn = (lifted K pieces lane logs shards logs' shards' home turn).grows
 
-prepared_out : (lane : ℕ) (r : Record) (J : List Record) → is_in_lane lane r ≡ false → prepared lane (r ∷ J) ≡ prepared lane J
+prepared_out : (lane : ℕ) (r : Record) (J : List Record) → tells_lane lane r ≡ false → prepared lane (r ∷ J) ≡ prepared lane J
 prepared_out lane (Prepare stamp b txs) J h = rw h
 prepared_out lane other J h = refl
 
-prepared_here : (lane : ℕ) (r : Record) (I J : List Record) → is_in_lane lane r ≡ true → prepared lane J ≡ batches.prepares_txs I
+prepared_here : (lane : ℕ) (r : Record) (I J : List Record) → tells_lane lane r ≡ true → prepared lane J ≡ batches.prepares_txs I
     → prepared lane (r ∷ J) ≡ batches.prepares_txs (r ∷ I)
 prepared_here lane (Prepare stamp b txs) I J l h = rw l (ap (λ x. txs ∷ x) h)
 prepared_here lane other I J l h = h
 
 pub prepared_own : (lane : ℕ) (J : List Record) → prepared lane J ≡ prepared_of lane J
 prepared_own lane [] = refl
-prepared_own lane (r ∷ J) = elim (is_in_lane lane r) as (λ t. is_in_lane lane r ≡ t → prepared lane (r ∷ J) ≡ prepared_of lane (r ∷ J)) [
+prepared_own lane (r ∷ J) = elim (tells_lane lane r) as (λ t. tells_lane lane r ≡ t → prepared lane (r ∷ J) ≡ prepared_of lane (r ∷ J)) [
   | true ↦ λ t. prepared_here lane r (own lane J) J t (prepared_own lane J) ∙ ap batches.prepares_txs (sym (own_in lane r J t))
   | false ↦ λ t. prepared_out lane r J t ∙ prepared_own lane J ∙ ap batches.prepares_txs (sym (own_out lane r J t))
 ] refl

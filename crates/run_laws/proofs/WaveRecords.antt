@@ -28,14 +28,14 @@ abbrev pub NoneSpends : Digest → List Entry → Type 0
 NoneSpends x [] = Unit {0}
 NoneSpends x (e ∷ es) = (has e.inputs x ≡ false) × NoneSpends x es
 
-part_lacks : (x : Digest) (shards s k : ℕ) (txs : List Compact) → AllLack x txs → NoneSpends x (part shards s k txs)
-part_lacks x shards s k [] h = tt
-part_lacks x shards s k (t ∷ ts) h =
-    let rest = part_lacks x shards s (suc k) ts h.1 in
-    elim (is_empty (on_shard shards s t.inputs) && is_empty (on_shard shards s t.outputs))
-    as (λ c. NoneSpends x (if c then part shards s (suc k) ts else entry_of shards s k t ∷ part shards s (suc k) ts)) [
+part_lacks : (x : Digest) (K : Shape) (s k : ℕ) (txs : List Compact) → AllLack x txs → NoneSpends x (part K s k txs)
+part_lacks x K s k [] h = tt
+part_lacks x K s k (t ∷ ts) h =
+    let rest = part_lacks x K s (suc k) ts h.1 in
+    elim (is_empty (on_shard K s t.inputs) && is_empty (on_shard K s t.outputs))
+    as (λ c. NoneSpends x (if c then part K s (suc k) ts else entry_of K s k t ∷ part K s (suc k) ts)) [
       | true ↦ rest
-      | false ↦ (on_lacks shards s t.inputs x h.0, rest)
+      | false ↦ (on_lacks K s t.inputs x h.0, rest)
     ]
 
 has_both : (xs ys : List Digest) (x : Digest) → has xs x ≡ false → has ys x ≡ false → has (xs ++ ys) x ≡ false
@@ -151,10 +151,10 @@ module _ (K : Shape) (minting : Minted) (P : Compact → Type 0) (some : 0 < K.s
           → (c ≡ b → ⊥) → NoneSpends x (entries es)
       lock_lacks newer rest stamp c es e h apart =
           let found : record_of 2 (J n) c ≡ Some (Lock stamp c es) = found_at n 2 c newer rest (Lock stamp c es) e h (test_itself 2 c) in
-          let is : entries (lock_of (J n) c) ≡ part K.shards s 0 (txs_of (J (home_of K c.lane)) c) =
+          let is : entries (lock_of (J n) c) ≡ part K s 0 (txs_of (J (home_of K c.lane)) c) =
           (all_structure K minting P some after kept').lock_part s c (ap is_some found) in
-          let es_are : entries es ≡ part K.shards s 0 (txs_of (J (home_of K c.lane)) c) = ap (λ o. entries (entries_in o)) (sym found) ∙ is in
-          subst (NoneSpends x) (sym es_are) (part_lacks x K.shards s 0 (txs_of (J (home_of K c.lane)) c)
+          let es_are : entries es ≡ part K s 0 (txs_of (J (home_of K c.lane)) c) = ap (λ o. entries (entries_in o)) (sym found) ∙ is in
+          subst (NoneSpends x) (sym es_are) (part_lacks x K s 0 (txs_of (J (home_of K c.lane)) c)
           (lacks c (of_new n newer rest (Lock stamp c es) c e h (test_itself 2 c)) apart))
 
       pub record Stays (past : List Record) : Type 0 where

@@ -76,39 +76,38 @@ module _ (s : Scale) (n : ℕ) where
     home_in_records =
         let both : weight (records_of K lane txs)
         ≡ weight (at_coordinator K lane txs) + weight
-        (flat_map (λ j. coming_at_shard (shard_node K j) (part K.shards j 0 txs)) (range_with_len 0 K.shards))
-        = weight-append (at_coordinator K lane txs)
-        (flat_map (λ j. coming_at_shard (shard_node K j) (part K.shards j 0 txs)) (range_with_len 0 K.shards)) in
+        (flat_map (λ j. coming_at_shard (shard_node K j) (part K j 0 txs)) (range_with_len 0 K.shards))
+        = weight-append (at_coordinator K lane txs) (flat_map (λ j. coming_at_shard (shard_node K j) (part K j 0 txs)) (range_with_len 0 K.shards)) in
         omega (arith, both)
 
     pub kept_home : (p : Coming → Bool) → weight (filter p (at_coordinator K lane txs)) ≤ weight (filter p (records_of K lane txs))
     kept_home p =
         let parts : filter p (records_of K lane txs)
         ≡ filter p (at_coordinator K lane txs) ++ filter p
-        (flat_map (λ j. coming_at_shard (shard_node K j) (part K.shards j 0 txs)) (range_with_len 0 K.shards))
-        = filter-append p (at_coordinator K lane txs)
-        (flat_map (λ j. coming_at_shard (shard_node K j) (part K.shards j 0 txs)) (range_with_len 0 K.shards)) in
+        (flat_map (λ j. coming_at_shard (shard_node K j) (part K j 0 txs)) (range_with_len 0 K.shards))
+        = filter-append p (at_coordinator K lane txs) (flat_map (λ j. coming_at_shard (shard_node K j) (part K j 0 txs)) (range_with_len 0 K.shards))
+        in
         let both : weight (filter p (records_of K lane txs))
         ≡ weight (filter p (at_coordinator K lane txs))
-        + weight (filter p (flat_map (λ j. coming_at_shard (shard_node K j) (part K.shards j 0 txs)) (range_with_len 0 K.shards)))
+        + weight (filter p (flat_map (λ j. coming_at_shard (shard_node K j) (part K j 0 txs)) (range_with_len 0 K.shards)))
         = ap weight parts ∙ weight-append (filter p (at_coordinator K lane txs))
-        (filter p (flat_map (λ j. coming_at_shard (shard_node K j) (part K.shards j 0 txs)) (range_with_len 0 K.shards))) in
+        (filter p (flat_map (λ j. coming_at_shard (shard_node K j) (part K j 0 txs)) (range_with_len 0 K.shards))) in
         omega (arith, both)
 
     pub kept_shard : (p : Coming → Bool) (j : ℕ) → j < K.shards
-        → weight (filter p (coming_at_shard (shard_node K j) (part K.shards j 0 txs))) ≤ weight (filter p (records_of K lane txs))
+        → weight (filter p (coming_at_shard (shard_node K j) (part K j 0 txs))) ≤ weight (filter p (records_of K lane txs))
     kept_shard p j lt =
         let parts : filter p (records_of K lane txs)
         ≡ filter p (at_coordinator K lane txs) ++ filter p
-        (flat_map (λ j. coming_at_shard (shard_node K j) (part K.shards j 0 txs)) (range_with_len 0 K.shards))
-        = filter-append p (at_coordinator K lane txs)
-        (flat_map (λ j. coming_at_shard (shard_node K j) (part K.shards j 0 txs)) (range_with_len 0 K.shards)) in
+        (flat_map (λ j. coming_at_shard (shard_node K j) (part K j 0 txs)) (range_with_len 0 K.shards))
+        = filter-append p (at_coordinator K lane txs) (flat_map (λ j. coming_at_shard (shard_node K j) (part K j 0 txs)) (range_with_len 0 K.shards))
+        in
         let both : weight (filter p (records_of K lane txs))
         ≡ weight (filter p (at_coordinator K lane txs))
-        + weight (filter p (flat_map (λ j. coming_at_shard (shard_node K j) (part K.shards j 0 txs)) (range_with_len 0 K.shards)))
+        + weight (filter p (flat_map (λ j. coming_at_shard (shard_node K j) (part K j 0 txs)) (range_with_len 0 K.shards)))
         = ap weight parts ∙ weight-append (filter p (at_coordinator K lane txs))
-        (filter p (flat_map (λ j. coming_at_shard (shard_node K j) (part K.shards j 0 txs)) (range_with_len 0 K.shards))) in
-        omega (arith, both, kept_range p (λ j. coming_at_shard (shard_node K j) (part K.shards j 0 txs)) j K.shards lt)
+        (filter p (flat_map (λ j. coming_at_shard (shard_node K j) (part K j 0 txs)) (range_with_len 0 K.shards))) in
+        omega (arith, both, kept_range p (λ j. coming_at_shard (shard_node K j) (part K j 0 txs)) j K.shards lt)
 
   -- what passes at a shard with a part, and at a coordinator, behind those that have come
   module _ (p : Coming → Bool) where
@@ -216,18 +215,17 @@ module _ (s : Scale) (n : ℕ) where
           )
 
   -- of a new batch at a shard with a part
-  pub shard_in_records : (K : Shape) (lane : ℕ) (txs : List Compact) (j : ℕ) → j < K.shards → n ≡ shard_node K j
-      → is_no_part (part K.shards j 0 txs) ≡ false
-      → s.coming (lock_at n (part K.shards j 0 txs)) + (s.coming (finish_at n (length (part K.shards j 0 txs))) + s.coming (forget_at n))
+  pub shard_in_records : (K : Shape) (lane : ℕ) (txs : List Compact) (j : ℕ) → j < K.shards → n ≡ shard_node K j → is_no_part (part K j 0 txs) ≡ false
+      → s.coming (lock_at n (part K j 0 txs)) + (s.coming (finish_at n (length (part K j 0 txs))) + s.coming (forget_at n))
       ≤ weight (records_of K lane txs)
   shard_in_records K lane txs j lt e some =
       let all : (cs : List Coming) → filter (λ (c : Coming). true) cs ≡ cs = keeps_all in
-      let own : s.coming (lock_at n (part K.shards j 0 txs)) + (s.coming (finish_at n (length (part K.shards j 0 txs))) + s.coming (forget_at n))
-      ≤ weight (filter (λ (c : Coming). true) (coming_at_shard n (part K.shards j 0 txs)))
-      = from_lock (λ (c : Coming). true) (part K.shards j 0 txs) some refl refl refl in
-      let shard : weight (filter (λ (c : Coming). true) (coming_at_shard n (part K.shards j 0 txs)))
+      let own : s.coming (lock_at n (part K j 0 txs)) + (s.coming (finish_at n (length (part K j 0 txs))) + s.coming (forget_at n))
+      ≤ weight (filter (λ (c : Coming). true) (coming_at_shard n (part K j 0 txs)))
+      = from_lock (λ (c : Coming). true) (part K j 0 txs) some refl refl refl in
+      let shard : weight (filter (λ (c : Coming). true) (coming_at_shard n (part K j 0 txs)))
       ≤ weight (filter (λ (c : Coming). true) (records_of K lane txs))
-      = subst (λ k. weight (filter (λ (c : Coming). true) (coming_at_shard k (part K.shards j 0 txs)))
+      = subst (λ k. weight (filter (λ (c : Coming). true) (coming_at_shard k (part K j 0 txs)))
       ≤ weight (filter (λ (c : Coming). true) (records_of K lane txs))) (sym e) (kept_shard K lane txs (λ (c : Coming). true) j lt) in
       omega (arith, own, shard, ap weight (all (records_of K lane txs)))
     where

@@ -84,8 +84,8 @@ first_stamp K m n = elim (in_or_beyond n (K.coordinators + K.shards)) [
   where
     of_record : last_stamp (first_record K m n ∷ []) ≡ 0
     of_record = elim (nat_lt n K.coordinators)
-        as (λ c. last_stamp ((if c then Start (header_of K m.id n)
-        else Genesis (header_of K m.id n) (on_shard K.shards (n - K.coordinators) m.hashes)) ∷ []) ≡ 0) [ true ↦ refl | false ↦ refl ]
+        as (λ c. last_stamp ((if c then Start (header_of K m.id n) else Genesis (header_of K m.id n) (on_shard K (n - K.coordinators) m.hashes))
+        ∷ []) ≡ 0) [ true ↦ refl | false ↦ refl ]
 
 module _ (K : Shape) (minting : Minted) (P : Compact → Type 0) (shards : 0 < K.shards) where
   abbrev whole : List Row → ℕ → List Record

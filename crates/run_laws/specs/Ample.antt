@@ -40,8 +40,7 @@ coming_at_shard node (e ∷ es) =
 
 -- all records of a lane's batch of these transactions
 abbrev pub records_of : Shape → ℕ → List Compact → List Coming
-records_of K lane txs = at_coordinator K lane txs
-    ++ flat_map (λ s. coming_at_shard (shard_node K s) (part K.shards s 0 txs)) (range_with_len 0 K.shards)
+records_of K lane txs = at_coordinator K lane txs ++ flat_map (λ s. coming_at_shard (shard_node K s) (part K s 0 txs)) (range_with_len 0 K.shards)
 
 -- those that the lane's open batch has not written yet, none where the lane is idle
 abbrev pub unwritten : Shape → (ℕ → List Record) → ℕ → List Coming

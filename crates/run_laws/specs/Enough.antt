@@ -48,7 +48,7 @@ LockRoomLaw = (K : Shape) (m : Minted) (sound : FullTx → Bool) (capacity : ℕ
     → record_of prepare_kind (X (home_of K b.lane)) b ≡ Some (Prepare stamp b txs) → Concerned K txs s
     → (slot (X (shard_node K s)) b.lane).number < b.number
     → IsEnd (E (shard_node K s)) front → IsEnd front (X (shard_node K s))
-    → HasRoom K capacity (shard_node K s) front (lock_record front (record { batch = b; part = part K.shards s 0 txs; cause = stamp }))
+    → HasRoom K capacity (shard_node K s) front (lock_record front (record { batch = b; part = part K s 0 txs; cause = stamp }))
 
 -- and each node's disk has room for what is kept for its open batches
 abbrev pub KeptRoomLaw : Type 0

@@ -31,7 +31,7 @@ pub data IsNext (K : Shape) (lane : ℕ) (next : List Compact → Type 0) (J : �
       → (slot (J (home_of K b.lane)) b.lane).phase ≡ InPrepare
       → record_of prepare_kind (J (home_of K b.lane)) b ≡ Some (Prepare t b txs) → HaveBelow K txs (λ k. J (shard_node K k)) lock_kind b s
       → (slot (J node) b.lane).number < b.number
-      → r ≡ lock_record (J node) (record { batch = b; part = part K.shards s 0 txs; cause = t }) → IsNext K lane next J node r
+      → r ≡ lock_record (J node) (record { batch = b; part = part K s 0 txs; cause = t }) → IsNext K lane next J node r
 
 -- the node, on a disk of so many bytes, has no room for what that record needs, whose stamp is not past the last one
 pub record HasNoRoom (K : Shape) (lane : ℕ) (next : List Compact → Type 0) (J : ℕ → List Record) (limit node used need capacity : ℕ) : Type 0 where

@@ -13,7 +13,7 @@ pub use Rattle.ledger_laws.specs.Resumed.{opened}
 -- whether the lane's last batch has a part for shard s and no Lock there, by the journals of the two nodes
 abbrev pub lacks_lock_by : Shape → List Record → List Record → ℕ → ℕ → Bool
 lacks_lock_by K home own s lane =
-    not (is_no_part (part K.shards s 0 (txs_of home (open_batch home lane)))) && not (is_some (record_of lock_kind own (open_batch home lane)))
+    not (is_no_part (part K s 0 (txs_of home (open_batch home lane)))) && not (is_some (record_of lock_kind own (open_batch home lane)))
 
 -- a lane's last batch has a part for a shard, and no Lock there
 abbrev pub lacks_lock : Shape → (ℕ → List Record) → ℕ → ℕ → Bool

@@ -101,4 +101,4 @@ EndLaw = (K : Shape) (mint : List Output) (submissions : List FullTx) (logs shar
 -- the parts of a batch within the limits are within them
 abbrev pub PartLaw : Type 0
 PartLaw = (h : Header) (txs : List Compact) (s : ℕ) → length txs ≤ h.shape.batch → All IsCompact txs → h.node ≡ shard_node h.shape s
-    → is_no_part (part h.shape.shards s 0 txs) ≡ false → IsFitPart h (part h.shape.shards s 0 txs)
+    → is_no_part (part h.shape s 0 txs) ≡ false → IsFitPart h (part h.shape s 0 txs)

@@ -1,5 +1,5 @@
 -- What the tests of equality decide that types derive.
-use Rattle.std.proofs.Common.{◌≡◌, true, Bool, List, refl, subst, arith}
+use Rattle.std.proofs.Common.{◌≡◌, ℕ, ◌==◌, true, Bool, List, refl, subst, arith}
 use Rattle.std.proofs.lemmas.Bool.Decides.{Decides-eqb}
 use Rattle.std.proofs.lemmas.Grind.{common_steps}
 use Rattle.std.specs.Bool.{Decides, beq}
@@ -14,7 +14,7 @@ use Rattle.cbdc_types.specs.contracts.record.HeaderPartialEq.TheImpl as header
 use Rattle.cbdc_types.specs.contracts.record.RecordPartialEq.TheImpl as of_record
 use Rattle.cbdc_types.specs.contracts.tx.CompactTxPartialEq.TheImpl as compact
 use Rattle.cbdc_model.specs.Records.{Digest, Entry, Answered, Reply, Held, Missing, Taken, Outcome, Won, Lacks, Blocked, Header, Compact, Record}
-use Rattle.cbdc_model.specs.Records.{Genesis, Lock, Finish, Forget, Start, Prepare, Commit, Discard, Done, Carry, CarryStart}
+use Rattle.cbdc_model.specs.Records.{Genesis, Lock, Finish, Forget, Start, Prepare, Commit, Discard, Done, Upgrade, Carry, CarryStart, Seal}
 
 -- a test that says yes of the same alone, and always of the same
 decided : {A : Type 0} (E : A → A → Bool) → ((x y : A) → E x y ≡ true → x ≡ y) → ((x : A) → E x x ≡ true) → (x y : A) → Decides (E x y) (x ≡ y)
@@ -25,6 +25,9 @@ hash_decides x y = pointwise_decides Decides-eqb x y
 
 pub hashes_decide : (xs ys : List Digest) → Decides (pointwise hash.eq-value.it xs ys) (xs ≡ ys)
 hashes_decide xs ys = pointwise_decides hash_decides xs ys
+
+numbers_decide : (xs ys : List ℕ) → Decides (pointwise ◌==◌ xs ys) (xs ≡ ys)
+numbers_decide xs ys = pointwise_decides Decides-eqb xs ys
 
 pub decisions_decide : (xs ys : List Bool) → Decides (pointwise beq xs ys) (xs ≡ ys)
 decisions_decide xs ys = pointwise_decides booleans_Decides xs ys
@@ -110,25 +113,28 @@ header_decides x y = decided header.eq-value.it header_is header_self x y
 
 record_is : (x y : Record) → of_record.eq-value.it x y ≡ true → x ≡ y
 record_is (Genesis g xs) (Genesis h ys) e = grind (arith, common_steps, (header_decides g h).0, (hashes_decide xs ys).0)
-record_is (Carry stamp g source xs numbers) (Genesis h ys) e = grind (arith, common_steps, (header_decides g h).0, (hashes_decide xs ys).0)
 record_is (Lock s b xs) (Lock t c ys) e = grind (arith, common_steps, (all_answered_decide xs ys).0)
 record_is (Finish s b xs) (Finish t c ys) e = grind (arith, common_steps, (decisions_decide xs ys).0)
 record_is (Forget s b) (Forget t c) e = grind (arith, common_steps)
 record_is (Start g) (Start h) e = grind (arith, common_steps, (header_decides g h).0)
-record_is (CarryStart stamp g source numbers) (Start h) e = grind (arith, common_steps, (header_decides g h).0)
 record_is (Prepare s b xs) (Prepare t c ys) e = grind (arith, common_steps, (compacts_decide xs ys).0)
 record_is (Commit s b xs) (Commit t c ys) e = grind (arith, common_steps, (outcomes_decide xs ys).0)
 record_is (Discard s b) (Discard t c) e = grind (arith, common_steps)
 record_is (Done s b) (Done t c) e = grind (arith, common_steps)
+record_is (Upgrade s n) (Upgrade t m) e = grind (arith, common_steps)
+record_is (Carry s g k xs ns) (Carry t h l ys ms) e =
+    grind (arith, common_steps, (header_decides g h).0, (hashes_decide xs ys).0, (numbers_decide ns ms).0)
+record_is (CarryStart s g k ns) (CarryStart t h l ms) e = grind (arith, common_steps, (header_decides g h).0, (numbers_decide ns ms).0)
+record_is (Seal s k n) (Seal t l m) e = grind (arith, common_steps)
 record_is _ _ e = cc
 
 record_self : (x : Record) → of_record.eq-value.it x x ≡ true
 record_self (Genesis g xs) = grind (arith, common_steps, (header_decides g g).1, (hashes_decide xs xs).1)
-record_self (Carry stamp g source xs numbers) = grind (arith, common_steps, (header_decides g g).1, (hashes_decide xs xs).1)
+record_self (Carry s g k xs ns) = grind (arith, common_steps, (header_decides g g).1, (hashes_decide xs xs).1, (numbers_decide ns ns).1)
 record_self (Lock s b xs) = grind (arith, common_steps, (all_answered_decide xs xs).1)
 record_self (Finish s b xs) = grind (arith, common_steps, (decisions_decide xs xs).1)
 record_self (Start g) = grind (arith, common_steps, (header_decides g g).1)
-record_self (CarryStart stamp g source numbers) = grind (arith, common_steps, (header_decides g g).1)
+record_self (CarryStart s g k ns) = grind (arith, common_steps, (header_decides g g).1, (numbers_decide ns ns).1)
 record_self (Prepare s b xs) = grind (arith, common_steps, (compacts_decide xs xs).1)
 record_self (Commit s b xs) = grind (arith, common_steps, (outcomes_decide xs xs).1)
 record_self other = grind (arith, common_steps)

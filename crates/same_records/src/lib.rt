@@ -16,7 +16,7 @@ pub use comparing::{
     are_same_hashes, is_same_compact, is_same_entry, is_same_output, is_same_point,
 };
 pub use lookups::{
-    batch_of, is_in_lane, is_of, kind_of, last_stamp, lock_of, outcomes_of, record_of, stamp_of,
+    batch_of, is_of, kind_of, last_stamp, lock_of, outcomes_of, record_of, stamp_of, tells_lane,
     txs_of,
 };
 pub use parts::{

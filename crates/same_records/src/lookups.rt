@@ -1,11 +1,11 @@
 // What stands in records, and how one is found. A journal has its newest record first.
-ghost use Rattle.std.specs.Prelude.{◌≡◌, ◌==◌, ℕ, false, MatchOption};
-ghost use Rattle.cbdc_model.specs.Records.{Batch as ModelBatch, same_batch, stamp_of, kind_of, is_of, is_in_lane, record_of, lock_of, txs_of, outcomes_of, last_stamp};
+ghost use Rattle.std.specs.Prelude.{◌≡◌, false, MatchOption};
+ghost use Rattle.cbdc_model.specs.Records.{Batch as ModelBatch, same_batch, stamp_of, kind_of, is_of, tells_lane, record_of, lock_of, txs_of, outcomes_of, last_stamp};
 
 use crate::values::is_same_batch;
 use cbdc_types::{Answered, BatchId, CompactTx, LaneId, Outcome, Record, RecordKind, Stamp};
 
-/// A record's stamp: 0 for a first record.
+/// A record's stamp: 0 for a first record of a mint.
 pub fn stamp_of(r: &Record) -> Stamp
     ensures { result ≡ stamp_of r.now }
 {
@@ -18,10 +18,14 @@ pub fn stamp_of(r: &Record) -> Stamp
         Record::Commit { stamp, .. } => *stamp,
         Record::Discard { stamp, .. } => *stamp,
         Record::Done { stamp, .. } => *stamp,
+        Record::Upgrade { stamp, .. } => *stamp,
+        Record::Carry { stamp, .. } => *stamp,
+        Record::CarryStart { stamp, .. } => *stamp,
+        Record::Seal { stamp, .. } => *stamp,
     }
 }
 
-/// The kind of a record, as the first byte of its body names it: 1 to 9.
+/// The kind of a record, as the first byte of its body names it: 1 to 10, and 12 to 14.
 pub fn kind_of(r: &Record) -> u64
     ensures { result ≡ kind_of r.now }
 {
@@ -35,15 +39,17 @@ pub fn kind_of(r: &Record) -> u64
         Record::Commit { .. } => RecordKind::Commit as u64,
         Record::Discard { .. } => RecordKind::Discard as u64,
         Record::Done { .. } => RecordKind::Done as u64,
+        Record::Upgrade { .. } => RecordKind::Upgrade as u64,
+        Record::Carry { .. } => RecordKind::Carry as u64,
+        Record::CarryStart { .. } => RecordKind::CarryStart as u64,
+        Record::Seal { .. } => RecordKind::Seal as u64,
     }
 }
 
-/// The batch of a record, none of a first record.
+/// The batch of a record, none of a first record, an Upgrade and a Seal.
 pub fn batch_of(r: &Record) -> Option<BatchId>
-    ensures batch { MatchOption result ((b : ModelBatch) → is_of b r.now ≡ false)
+    ensures { MatchOption result ((b : ModelBatch) → is_of b r.now ≡ false)
         (λ own. (b : ModelBatch) → is_of b r.now ≡ same_batch own b) }
-    ensures lane { MatchOption result ((lane : ℕ) → is_in_lane lane r.now ≡ false)
-        (λ own. (lane : ℕ) → is_in_lane lane r.now ≡ (own.lane == lane)) }
 {
     match r {
         Record::Lock { batch, .. } => Some(*batch),
@@ -53,7 +59,7 @@ pub fn batch_of(r: &Record) -> Option<BatchId>
         Record::Commit { batch, .. } => Some(*batch),
         Record::Discard { batch, .. } => Some(*batch),
         Record::Done { batch, .. } => Some(*batch),
-        Record::Genesis { .. } | Record::Start { .. } => None,
+        _ => None,
     }
 }
 
@@ -67,13 +73,21 @@ pub fn is_of(batch: &BatchId, r: &Record) -> bool
     }
 }
 
-/// Whether a record is of this lane.
-pub fn is_in_lane(lane: LaneId, r: &Record) -> bool
-    ensures { result ≡ is_in_lane lane r.now }
+/// Whether a record tells what the lane's last batch is: one of a batch of the lane, and a first record that has the lane's number.
+pub fn tells_lane(lane: LaneId, r: &Record) -> bool
+    ensures { result ≡ tells_lane lane r.now }
 {
-    match batch_of(r) {
-        Some(own) => own.lane.0 == lane.0,
-        None => false,
+    match r {
+        Record::Lock { batch, .. } => batch.lane.0 == lane.0,
+        Record::Finish { batch, .. } => batch.lane.0 == lane.0,
+        Record::Forget { batch, .. } => batch.lane.0 == lane.0,
+        Record::Prepare { batch, .. } => batch.lane.0 == lane.0,
+        Record::Commit { batch, .. } => batch.lane.0 == lane.0,
+        Record::Discard { batch, .. } => batch.lane.0 == lane.0,
+        Record::Done { batch, .. } => batch.lane.0 == lane.0,
+        Record::Carry { numbers, .. } => (lane.0 as usize) < numbers.len(),
+        Record::CarryStart { header, .. } => lane.0 / header.shape.lanes() == header.node.0,
+        _ => false,
     }
 }
 

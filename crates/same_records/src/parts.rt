@@ -16,75 +16,70 @@ pub fn home_of(shape: &Shape, lane: LaneId) -> NodeId
 }
 
 // Puts those of the hashes that lie on a shard behind those so far.
-fn add_hashes(shards: u32, shard: u32, xs: &[Hash], out: &mut Vec<Hash>) -> Result<(), AllocError>
-    requires { shards < 2 ^ 24 }
-    ensures { OnOk result (out.new.items ≡ out.old.items ++ on_shard shards shard xs.now) }
+fn add_hashes(shape: &Shape, shard: u32, xs: &[Hash], out: &mut Vec<Hash>) -> Result<(), AllocError>
+    ensures { OnOk result (out.new.items ≡ out.old.items ++ on_shard shape.now shard xs.now) }
 {
     let Some((x, rest)) = xs.split_first() else {
         return Ok(());
     };
-    if shard_of(x, shards) == shard {
+    if shard_of(x, shape) == shard {
         out.push(*x)?;
     }
-    add_hashes(shards, shard, rest, out)
+    add_hashes(shape, shard, rest, out)
 }
 
 /// Those of the hashes that lie on a shard, in order.
 pub fn hashes_on(
     alloc: Global,
-    shards: u32,
+    shape: &Shape,
     shard: u32,
     xs: &[Hash],
 ) -> Result<List<Hash>, AllocError>
-    requires { shards < 2 ^ 24 }
-    ensures { IfOk result (λ l. l ≡ on_shard shards shard xs.now) }
+    ensures { IfOk result (λ l. l ≡ on_shard shape.now shard xs.now) }
 {
     let mut out = Vec::new(alloc);
-    add_hashes(shards, shard, xs, &mut out)?;
+    add_hashes(shape, shard, xs, &mut out)?;
     Ok(List::from_vec(out))
 }
 
 /// A transaction's entry at a shard, with its place.
 pub fn entry_at(
     alloc: Global,
-    shards: u32,
+    shape: &Shape,
     shard: u32,
     place: u32,
     t: &CompactTx,
 ) -> Result<Entry, AllocError>
-    requires { shards < 2 ^ 24 }
-    ensures { IfOk result (λ e. e ≡ entry_of shards shard place t.now) }
+    ensures { IfOk result (λ e. e ≡ entry_of shape.now shard place t.now) }
 {
     Ok(Entry {
         place,
         id: t.id,
-        inputs: hashes_on(alloc, shards, shard, t.inputs.as_slice())?,
-        outputs: hashes_on(alloc, shards, shard, t.outputs.as_slice())?,
+        inputs: hashes_on(alloc, shape, shard, t.inputs.as_slice())?,
+        outputs: hashes_on(alloc, shape, shard, t.outputs.as_slice())?,
     })
 }
 
 /// Whether none of the hashes lies on a shard.
-pub fn are_elsewhere(shards: u32, shard: u32, xs: &[Hash]) -> bool
-    requires { shards < 2 ^ 24 }
-    ensures { result ≡ is_empty (on_shard shards shard xs.now) }
+pub fn are_elsewhere(shape: &Shape, shard: u32, xs: &[Hash]) -> bool
+    ensures { result ≡ is_empty (on_shard shape.now shard xs.now) }
 {
     match xs.split_first() {
         None => true,
-        Some((x, rest)) => shard_of(x, shards) != shard && are_elsewhere(shards, shard, rest),
+        Some((x, rest)) => shard_of(x, shape) != shard && are_elsewhere(shape, shard, rest),
     }
 }
 
 // Whether no transaction, the first of which has this place, has a hash on a shard.
-fn has_no_part(shards: u32, shard: u32, txs: &[CompactTx]) -> bool
-    requires { shards < 2 ^ 24 }
-    ensures { (place : ℕ) → result ≡ is_no_part (part shards shard place txs.now) }
+fn has_no_part(shape: &Shape, shard: u32, txs: &[CompactTx]) -> bool
+    ensures { (place : ℕ) → result ≡ is_no_part (part shape.now shard place txs.now) }
 {
     match txs.split_first() {
         None => true,
         Some((t, rest)) => {
-            are_elsewhere(shards, shard, t.inputs.as_slice())
-                && are_elsewhere(shards, shard, t.outputs.as_slice())
-                && has_no_part(shards, shard, rest)
+            are_elsewhere(shape, shard, t.inputs.as_slice())
+                && are_elsewhere(shape, shard, t.outputs.as_slice())
+                && has_no_part(shape, shard, rest)
         }
     }
 }
@@ -93,56 +88,59 @@ fn has_no_part(shards: u32, shard: u32, txs: &[CompactTx]) -> bool
 pub fn is_concerned(shape: &Shape, txs: &[CompactTx], shard: u32) -> bool
     ensures { IsTrue result ↔ Concerned shape.now txs.now shard }
 {
-    shard < shape.shards() && !has_no_part(shape.shards(), shard, txs)
+    shard < shape.shards() && !has_no_part(shape, shard, txs)
 }
 
 // Whether the hashes that lie on a shard are these, in order.
-fn are_those_on(shards: u32, shard: u32, xs: &[Hash], ys: &[Hash]) -> bool
-    requires { shards < 2 ^ 24 }
-    ensures { IsTrue result ↔ (ys.now ≡ on_shard shards shard xs.now) }
+fn are_those_on(shape: &Shape, shard: u32, xs: &[Hash], ys: &[Hash]) -> bool
+    ensures { IsTrue result ↔ (ys.now ≡ on_shard shape.now shard xs.now) }
 {
     let Some((x, others)) = xs.split_first() else {
         return ys.is_empty();
     };
-    if shard_of(x, shards) != shard {
-        return are_those_on(shards, shard, others, ys);
+    if shard_of(x, shape) != shard {
+        return are_those_on(shape, shard, others, ys);
     }
     match ys.split_first() {
         None => false,
-        Some((y, rest)) => is_hash(y, x) && are_those_on(shards, shard, others, rest),
+        Some((y, rest)) => is_hash(y, x) && are_those_on(shape, shard, others, rest),
     }
 }
 
 /// Whether an entry is a transaction's at a shard, with this place.
-pub fn is_entry_at(shards: u32, shard: u32, place: u64, t: &CompactTx, e: &Entry) -> bool
-    requires { shards < 2 ^ 24 }
-    ensures { IsTrue result ↔ (e.now ≡ entry_of shards shard place t.now) }
+pub fn is_entry_at(shape: &Shape, shard: u32, place: u64, t: &CompactTx, e: &Entry) -> bool
+    ensures { IsTrue result ↔ (e.now ≡ entry_of shape.now shard place t.now) }
 {
     u64::from(e.place) == place
         && is_hash(&e.id, &t.id)
-        && are_those_on(shards, shard, t.inputs.as_slice(), e.inputs.as_slice())
-        && are_those_on(shards, shard, t.outputs.as_slice(), e.outputs.as_slice())
+        && are_those_on(shape, shard, t.inputs.as_slice(), e.inputs.as_slice())
+        && are_those_on(shape, shard, t.outputs.as_slice(), e.outputs.as_slice())
 }
 
 /// Whether answered entries are those of a shard's part of the transactions from this place on.
-pub fn is_part_from(shards: u32, shard: u32, place: u64, txs: &[CompactTx], es: &[Answered]) -> bool
-    requires shards { shards < 2 ^ 24 }
+pub fn is_part_from(
+    shape: &Shape,
+    shard: u32,
+    place: u64,
+    txs: &[CompactTx],
+    es: &[Answered],
+) -> bool
     requires places { place + length txs.now < 2 ^ 64 }
-    ensures { IsTrue result ↔ (entries es.now ≡ part shards shard place txs.now) }
+    ensures { IsTrue result ↔ (entries es.now ≡ part shape.now shard place txs.now) }
 {
     let Some((t, others)) = txs.split_first() else {
         return es.is_empty();
     };
-    if are_elsewhere(shards, shard, t.inputs.as_slice())
-        && are_elsewhere(shards, shard, t.outputs.as_slice())
+    if are_elsewhere(shape, shard, t.inputs.as_slice())
+        && are_elsewhere(shape, shard, t.outputs.as_slice())
     {
-        return is_part_from(shards, shard, place + 1, others, es);
+        return is_part_from(shape, shard, place + 1, others, es);
     }
     match es.split_first() {
         None => false,
         Some((a, rest)) => {
-            is_entry_at(shards, shard, place, t, &a.entry)
-                && is_part_from(shards, shard, place + 1, others, rest)
+            is_entry_at(shape, shard, place, t, &a.entry)
+                && is_part_from(shape, shard, place + 1, others, rest)
         }
     }
 }

@@ -1,12 +1,12 @@
 // A lane's slot at a node, by looking back.
 ghost use Rattle.std.specs.Prelude.{◌≡◌};
-ghost use Rattle.cbdc_model.specs.Slots.{slot, slot_stamp};
+ghost use Rattle.cbdc_model.specs.Slots.{Idle, number_at, slot, slot_stamp};
 ghost use Rattle.same_records.specs.Slots.{slot_in};
 
-use crate::lookups::{is_in_lane, stamp_of};
+use crate::lookups::{stamp_of, tells_lane};
 use cbdc_types::{LaneId, Record, Stamp};
 
-/// What the last record of a lane was: Idle after none, a Forget or a Done.
+/// What the last record of a lane was: Idle after none, a first record, a Forget or a Done.
 #[derive(Clone, Copy, PartialEq, Eq)]
 pub enum Phase {
     Idle,
@@ -22,6 +22,26 @@ pub enum Phase {
 pub struct Slot {
     pub number: u64,
     pub phase: Phase,
+}
+
+// The slot of a lane whose last batch, which is done, had this number.
+fn idle_after(number: u64) -> Slot
+    ensures { slot_in result ≡ record { number = number; phase = Idle } }
+{
+    Slot {
+        number,
+        phase: Phase::Idle,
+    }
+}
+
+// The number at a place, 0 past the end.
+fn number_at(numbers: &[u64], place: usize) -> u64
+    ensures { result ≡ number_at numbers.now place }
+{
+    match numbers.get(place) {
+        Some(number) => *number,
+        None => 0,
+    }
 }
 
 /// The lane's slot in this journal.
@@ -42,7 +62,24 @@ pub fn slot_of(past: &[Record], lane: LaneId) -> Slot
         Record::Commit { batch, .. } => (batch, Phase::InCommit),
         Record::Discard { batch, .. } => (batch, Phase::InDiscard),
         Record::Done { batch, .. } => (batch, Phase::Idle),
-        Record::Genesis { .. } | Record::Start { .. } => return slot_of(rest, lane),
+        Record::Carry { numbers, .. } => {
+            return match numbers.as_slice().get(lane.0 as usize) {
+                Some(number) => idle_after(*number),
+                None => slot_of(rest, lane),
+            };
+        }
+        Record::CarryStart {
+            header,
+            numbers,
+            ..
+        } => {
+            if lane.0 / header.shape.lanes() != header.node.0 {
+                return slot_of(rest, lane);
+            }
+            let place = lane.0 % header.shape.lanes();
+            return idle_after(number_at(numbers.as_slice(), place as usize));
+        }
+        _ => return slot_of(rest, lane),
     };
     if batch.lane.0 == lane.0 {
         Slot {
@@ -61,7 +98,7 @@ pub fn slot_stamp(past: &[Record], lane: LaneId) -> Stamp
     match past.split_first() {
         None => Stamp(0),
         Some((r, rest)) => {
-            if is_in_lane(lane, r) {
+            if tells_lane(lane, r) {
                 stamp_of(r)
             } else {
                 slot_stamp(rest, lane)

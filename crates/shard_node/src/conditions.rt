@@ -41,7 +41,7 @@ fn is_hash_list(xs: &[Hash]) -> bool
 fn is_here(h: &Header, x: &Hash) -> bool
     ensures { IsTrue result ↔ (the_node h.now.shape (the_shard h.now.shape.shards x.now) ≡ h.now.node) }
 {
-    h.shape.coordinators() + shard_of(x, h.shape.shards()) == h.node.0
+    h.shape.coordinators() + shard_of(x, &h.shape) == h.node.0
 }
 
 // Whether the hashes lie on the node's shard.

@@ -9,20 +9,18 @@ use Rattle.cbdc_model.specs.Ranges.{part, is_no_part}
 use Rattle.shard_ranges.specs.Parts.{AllAbove, IsRising, NotAmong, Every, IsPart, AreParts, AreSplit, is_concerned, numbered, shard}
 
 -- the parts from shard n on
-abbrev AreFrom : ℕ → List Compact → ℕ → List (Vec Entry) → Type 0
-AreFrom shards txs n ps = (s : ℕ) (p : Vec Entry) → slice_get ps s ≡ Some p → p.items ≡ part shards (n + s) 0 txs
+abbrev AreFrom : Shape → List Compact → ℕ → List (Vec Entry) → Type 0
+AreFrom K txs n ps = (s : ℕ) (p : Vec Entry) → slice_get ps s ≡ Some p → p.items ≡ part K (n + s) 0 txs
 
-next_from : (shards : ℕ) (txs : List Compact) (n : ℕ) (p : Vec Entry) (ps : List (Vec Entry)) → AreFrom shards txs n (p ∷ ps)
-    → AreFrom shards txs (suc n) ps
-next_from shards txs n p ps from s q g =
+next_from : (K : Shape) (txs : List Compact) (n : ℕ) (p : Vec Entry) (ps : List (Vec Entry)) → AreFrom K txs n (p ∷ ps) → AreFrom K txs (suc n) ps
+next_from K txs n p ps from s q g =
     let e : n + suc s ≡ suc n + s = omega arith in
-    subst (λ (k : ℕ). q.items ≡ part shards k 0 txs) e (from (suc s) q g)
+    subst (λ (k : ℕ). q.items ≡ part K k 0 txs) e (from (suc s) q g)
 
-first_from : (shards : ℕ) (txs : List Compact) (n : ℕ) (p : Vec Entry) (ps : List (Vec Entry)) → AreFrom shards txs n (p ∷ ps)
-    → p.items ≡ part shards n 0 txs
-first_from shards txs n p ps from =
+first_from : (K : Shape) (txs : List Compact) (n : ℕ) (p : Vec Entry) (ps : List (Vec Entry)) → AreFrom K txs n (p ∷ ps) → p.items ≡ part K n 0 txs
+first_from K txs n p ps from =
     let e : n + 0 ≡ n = omega arith in
-    subst (λ (k : ℕ). p.items ≡ part shards k 0 txs) e (from 0 p refl)
+    subst (λ (k : ℕ). p.items ≡ part K k 0 txs) e (from 0 p refl)
 
 above_more : (n m : ℕ) (ps : List (Vec Entry)) → n < m → AllAbove shard n (numbered m ps)
 above_more n m [] h = tt
@@ -40,19 +38,19 @@ rising n (p ∷ ps) =
       | false ↦ (above_more n (suc n) ps (omega arith), rising (suc n) ps)
     ]
 
-concerned_at : (K : Shape) (txs : List Compact) (n : ℕ) (es : List Entry) → n < K.shards → es ≡ part K.shards n 0 txs → is_no_part es ≡ false
+concerned_at : (K : Shape) (txs : List Compact) (n : ℕ) (es : List Entry) → n < K.shards → es ≡ part K n 0 txs → is_no_part es ≡ false
     → is_concerned K txs n ≡ true
 concerned_at K txs n es lt e some =
     let within : nat_lt n K.shards ≡ true = grind (arith, nat_tests) in
-    let full : is_no_part (part K.shards n 0 txs) ≡ false = ap is_no_part (sym e) ∙ some in
+    let full : is_no_part (part K n 0 txs) ≡ false = ap is_no_part (sym e) ∙ some in
     rw (within, full) refl
 
-pub every : (K : Shape) (txs : List Compact) (n : ℕ) (ps : List (Vec Entry)) → n + length ps ≤ K.shards → AreFrom K.shards txs n ps
+pub every : (K : Shape) (txs : List Compact) (n : ℕ) (ps : List (Vec Entry)) → n + length ps ≤ K.shards → AreFrom K txs n ps
     → Every (IsPart K txs) (numbered n ps)
 every K txs n [] le from = tt
 every K txs n (p ∷ ps) le from =
-    let here = first_from K.shards txs n p ps from in
-    let rest = every K txs (suc n) ps (omega arith) (next_from K.shards txs n p ps from) in
+    let here = first_from K txs n p ps from in
+    let rest = every K txs (suc n) ps (omega arith) (next_from K txs n p ps from) in
     elim (is_no_part p.items) as (λ c. is_no_part p.items ≡ c
     → Every (IsPart K txs) (cond c (numbered (suc n) ps) ((n, p.items) ∷ numbered (suc n) ps))) [
       | true ↦ λ _. rest
@@ -60,24 +58,24 @@ every K txs n (p ∷ ps) le from =
     ] refl
 
 -- a shard that is not among them has no part
-pub not_among : (K : Shape) (txs : List Compact) (n : ℕ) (ps : List (Vec Entry)) (s : ℕ) → n ≤ s → s < n + length ps → AreFrom K.shards txs n ps
-    → NotAmong shard (numbered n ps) s → is_no_part (part K.shards s 0 txs) ≡ true
+pub not_among : (K : Shape) (txs : List Compact) (n : ℕ) (ps : List (Vec Entry)) (s : ℕ) → n ≤ s → s < n + length ps → AreFrom K txs n ps
+    → NotAmong shard (numbered n ps) s → is_no_part (part K s 0 txs) ≡ true
 not_among K txs n [] s le lt from out = absurd (omega arith)
 not_among K txs n (p ∷ ps) s le lt from out =
-    let here = first_from K.shards txs n p ps from in
-    let later = next_from K.shards txs n p ps from in
-    elim (n == s) as (λ c. (n == s) ≡ c → is_no_part (part K.shards s 0 txs) ≡ true) [
+    let here = first_from K txs n p ps from in
+    let later = next_from K txs n p ps from in
+    elim (n == s) as (λ c. (n == s) ≡ c → is_no_part (part K s 0 txs) ≡ true) [
       | true ↦ λ t.
           let same : n ≡ s = grind (arith, nat_tests) in
           elim (is_no_part p.items) as (λ c. is_no_part p.items ≡ c
-          → NotAmong shard (cond c (numbered (suc n) ps) ((n, p.items) ∷ numbered (suc n) ps)) s → is_no_part (part K.shards s 0 txs) ≡ true) [
-            | true ↦ λ none _. subst (λ (k : ℕ). is_no_part (part K.shards k 0 txs) ≡ true) same (ap is_no_part (sym here) ∙ none)
+          → NotAmong shard (cond c (numbered (suc n) ps) ((n, p.items) ∷ numbered (suc n) ps)) s → is_no_part (part K s 0 txs) ≡ true) [
+            | true ↦ λ none _. subst (λ (k : ℕ). is_no_part (part K k 0 txs) ≡ true) same (ap is_no_part (sym here) ∙ none)
             | false ↦ λ _ o. let apart = o.0 in cc
           ] refl out
       | false ↦ λ f.
           let apart : n ≢ s = grind (arith, nat_tests) in
           elim (is_no_part p.items) as (λ c. NotAmong shard (cond c (numbered (suc n) ps) ((n, p.items) ∷ numbered (suc n) ps)) s
-          → is_no_part (part K.shards s 0 txs) ≡ true) [
+          → is_no_part (part K s 0 txs) ≡ true) [
             | true ↦ λ o. not_among K txs (suc n) ps s (omega arith) (omega arith) later o
             | false ↦ λ o. not_among K txs (suc n) ps s (omega arith) (omega arith) later o.1
           ] out
@@ -88,13 +86,12 @@ concerned_parts true true e = absurd (cc)
 concerned_parts true false e = (refl, refl)
 concerned_parts false b e = absurd (cc)
 
-pub are_parts : (K : Shape) (txs : List Compact) (ps : List (Vec Entry)) → length ps ≡ K.shards → AreSplit K.shards txs ps
-    → AreParts K txs (numbered 0 ps)
+pub are_parts : (K : Shape) (txs : List Compact) (ps : List (Vec Entry)) → length ps ≡ K.shards → AreSplit K txs ps → AreParts K txs (numbered 0 ps)
 are_parts K txs ps len split = record {
   every = every K txs 0 ps (omega arith) (λ s p g. rw (from_zero s) (split s p g));
   rising = rising 0 ps;
   covers = λ s c out.
-      let both = concerned_parts (nat_lt s K.shards) (is_no_part (part K.shards s 0 txs)) c in
+      let both = concerned_parts (nat_lt s K.shards) (is_no_part (part K s 0 txs)) c in
       let within : nat_lt s K.shards ≡ true = both.0 in
       let below : s < K.shards = grind (arith, nat_tests) in
       let none = not_among K txs 0 ps s (omega arith) (omega arith) (λ k p g. rw (from_zero k) (split k p g)) out in

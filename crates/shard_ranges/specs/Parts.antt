@@ -21,7 +21,7 @@ NotAmong shard (c ∷ cs) s = ((shard c == s) ≡ false) × NotAmong shard cs s
 
 -- whether the shard has a part in these transactions
 abbrev pub is_concerned : Shape → List Compact → ℕ → Bool
-is_concerned K txs s = nat_lt s K.shards && not (is_no_part (part K.shards s 0 txs))
+is_concerned K txs s = nat_lt s K.shards && not (is_no_part (part K s 0 txs))
 
 -- a property holds of each in a list
 abbrev pub Every : {C : Type 0} → (C → Type 0) → List C → Type 0
@@ -40,7 +40,7 @@ shard c = c.0
 
 -- a concerned shard, with its part
 abbrev pub IsPart : Shape → List Compact → ℕ × List Entry → Type 0
-IsPart K txs p = (is_concerned K txs p.0 ≡ true) × (p.1 ≡ part K.shards p.0 0 txs)
+IsPart K txs p = (is_concerned K txs p.0 ≡ true) × (p.1 ≡ part K p.0 0 txs)
 
 -- each concerned shard once, in rising order, with its part
 abbrev pub AreParts : Shape → List Compact → List (ℕ × List Entry) → Type 0
@@ -57,14 +57,14 @@ AreBefore place [] = Unit {0}
 AreBefore place (e ∷ es) = (e.place < place) × AreBefore place es
 
 -- each shard has the entries that its part has so far, and behind them that of one more transaction with these hashes
-abbrev pub AreGrown : ℕ → List Compact → ℕ → Digest → List Digest → List Digest → List (Vec Entry) → Type 0
-AreGrown shards txs place id ins outs parts =
+abbrev pub AreGrown : Shape → List Compact → ℕ → Digest → List Digest → List Digest → List (Vec Entry) → Type 0
+AreGrown K txs place id ins outs parts =
     (s : ℕ) (p : Vec Entry) → slice_get parts s ≡ Some p
-    → p.items ≡ part shards s 0 txs ++ entry_if place id (on_shard shards s ins) (on_shard shards s outs)
+    → p.items ≡ part K s 0 txs ++ entry_if place id (on_shard K s ins) (on_shard K s outs)
 
 -- each shard has its part of the transactions
-abbrev pub AreSplit : ℕ → List Compact → List (Vec Entry) → Type 0
-AreSplit shards txs parts = (s : ℕ) (p : Vec Entry) → slice_get parts s ≡ Some p → p.items ≡ part shards s 0 txs
+abbrev pub AreSplit : Shape → List Compact → List (Vec Entry) → Type 0
+AreSplit K txs parts = (s : ℕ) (p : Vec Entry) → slice_get parts s ≡ Some p → p.items ≡ part K s 0 txs
 
 -- those that have an entry, each with its shard, the first of which is n
 abbrev pub numbered : ℕ → List (Vec Entry) → List (ℕ × List Entry)

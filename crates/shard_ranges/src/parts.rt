@@ -73,20 +73,18 @@ fn add_output(
 fn add_inputs(
     alloc: Global,
     parts: &mut Vec<Vec<Entry>>,
-    shards: u32,
+    shape: &Shape,
     place: u32,
     tx: &CompactTx,
 ) -> Result<(), AllocError>
-    requires count { vec_len parts.old ≡ shards }
-    requires some { 0 < shards }
-    requires few { shards ≤ 64 }
-    ensures count { vec_len parts.new ≡ shards }
+    requires count { vec_len parts.old ≡ shape.now.shards }
+    ensures count { vec_len parts.new ≡ shape.now.shards }
     ensures grown { OnOk result ((txs : Items Compact)
-        → length txs ≡ place → AreSplit shards txs parts.old.items
-        → AreGrown shards txs place tx.now.id tx.now.inputs [] parts.new.items) }
+        → length txs ≡ place → AreSplit shape.now txs parts.old.items
+        → AreGrown shape.now txs place tx.now.id tx.now.inputs [] parts.new.items) }
 {
     for x in tx.inputs.as_slice() {
-        let shard = shard_of(x, shards) as usize;
+        let shard = shard_of(x, shape) as usize;
         add_input(alloc, &mut parts[shard], place, &tx.id, x)?;
     }
     Ok(())
@@ -96,20 +94,18 @@ fn add_inputs(
 fn add_outputs(
     alloc: Global,
     parts: &mut Vec<Vec<Entry>>,
-    shards: u32,
+    shape: &Shape,
     place: u32,
     tx: &CompactTx,
 ) -> Result<(), AllocError>
-    requires count { vec_len parts.old ≡ shards }
-    requires some { 0 < shards }
-    requires few { shards ≤ 64 }
-    ensures count { vec_len parts.new ≡ shards }
+    requires count { vec_len parts.old ≡ shape.now.shards }
+    ensures count { vec_len parts.new ≡ shape.now.shards }
     ensures grown { OnOk result ((txs : Items Compact)
-        → length txs ≡ place → AreGrown shards txs place tx.now.id tx.now.inputs [] parts.old.items
-        → AreGrown shards txs place tx.now.id tx.now.inputs tx.now.outputs parts.new.items) }
+        → length txs ≡ place → AreGrown shape.now txs place tx.now.id tx.now.inputs [] parts.old.items
+        → AreGrown shape.now txs place tx.now.id tx.now.inputs tx.now.outputs parts.new.items) }
 {
     for x in tx.outputs.as_slice() {
-        let shard = shard_of(x, shards) as usize;
+        let shard = shard_of(x, shape) as usize;
         add_output(alloc, &mut parts[shard], place, &tx.id, x)?;
     }
     Ok(())
@@ -119,26 +115,26 @@ fn add_outputs(
 fn add_tx(
     alloc: Global,
     parts: &mut Vec<Vec<Entry>>,
-    shards: u32,
+    shape: &Shape,
     place: u32,
     tx: &CompactTx,
 ) -> Result<(), AllocError>
-    requires count { vec_len parts.old ≡ shards }
-    requires some { 0 < shards }
-    requires few { shards ≤ 64 }
-    ensures count { vec_len parts.new ≡ shards }
+    requires count { vec_len parts.old ≡ shape.now.shards }
+    ensures count { vec_len parts.new ≡ shape.now.shards }
     ensures added { OnOk result ((txs : Items Compact) → length txs ≡ place
-        → AreSplit shards txs parts.old.items → AreSplit shards (txs ++ tx.now ∷ []) parts.new.items) }
+        → AreSplit shape.now txs parts.old.items → AreSplit shape.now (txs ++ tx.now ∷ []) parts.new.items) }
 {
-    add_inputs(alloc, parts, shards, place, tx)?;
-    add_outputs(alloc, parts, shards, place, tx)
+    add_inputs(alloc, parts, shape, place, tx)?;
+    add_outputs(alloc, parts, shape, place, tx)
 }
 
 // An empty part for each shard.
-fn empty_parts(alloc: Global, shards: u32) -> Result<Vec<Vec<Entry>>, AllocError>
-    ensures count { IfOk result (λ v. vec_len v ≡ shards) }
-    ensures empty { IfOk result (λ v. AreSplit shards [] v.items) }
+fn empty_parts(alloc: Global, shape: &Shape) -> Result<Vec<Vec<Entry>>, AllocError>
+    ensures count { IfOk result (λ v. vec_len v ≡ shape.now.shards) }
+    ensures few { IfOk result (λ v. vec_len v < 2 ^ 32) }
+    ensures empty { IfOk result (λ v. AreSplit shape.now [] v.items) }
 {
+    let shards = shape.shards();
     let mut parts = Vec::with_capacity(alloc, shards as usize)?;
     for _shard in 0..shards {
         parts.push(Vec::new(alloc))?;
@@ -159,7 +155,7 @@ fn keep(found: &mut Vec<(u32, Part)>, shard: u32, entries: Vec<Entry>) -> Result
 
 // The parts that have an entry, each with its shard.
 fn concerned(alloc: Global, parts: Vec<Vec<Entry>>) -> Result<List<(u32, Part)>, AllocError>
-    requires { vec_len parts ≤ 64 }
+    requires { vec_len parts < 2 ^ 32 }
     ensures { IfOk result (λ ps. ps ≡ numbered 0 parts.items) }
 {
     let mut found = Vec::with_capacity(alloc, parts.len())?;
@@ -181,11 +177,10 @@ pub fn split(
     requires { length txs.now < 2 ^ 32 }
     ensures { IfOk result (AreParts shape.now txs.now) }
 {
-    let shards = shape.shards();
-    let mut parts = empty_parts(alloc, shards)?;
+    let mut parts = empty_parts(alloc, shape)?;
     let mut place = 0u32;
     for tx in txs {
-        add_tx(alloc, &mut parts, shards, place, tx)?;
+        add_tx(alloc, &mut parts, shape, place, tx)?;
         place += 1;
     }
     concerned(alloc, parts)

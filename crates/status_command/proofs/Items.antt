@@ -4,7 +4,7 @@ use Rattle.std.specs.Prelude.{slice_get, slice_index_or}
 use Rattle.std.proofs.Math.Seq.{take-suc}
 use Rattle.std.proofs.lemmas.List.{map-append}
 use Rattle.std.proofs.lemmas.Option.{slice_get-get_or, slice_get_past}
-use Rattle.cbdc_model.specs.Records.{Digest, Record}
+use Rattle.cbdc_model.specs.Records.{Digest, Shape, Record}
 use Rattle.cbdc_model.specs.Ranges.{shard_of}
 use Rattle.cbdc_model.specs.Status.{status, Absent}
 use Rattle.node_journal.specs.Nodes.{NodeOf}
@@ -30,19 +30,16 @@ module _ {N : Type 0} (journal : N → List Record) where
   journal_none (y ∷ nodes) zero at = absurd (cc)
   journal_none (y ∷ nodes) (suc n) at = journal_none nodes n at
 
-module _ {D : Type 0} (shards : List (NodeOf D)) (count : ℕ) (x : Digest) (k : ℕ) (same : count ≡ length shards) (place : k ≡ shard_of count x) where
-  there : k ≡ shard_of (length shards) x
-  there = place ∙ ap (λ (n : ℕ). shard_of n x) same
-
+module _ {D : Type 0} (K : Shape) (shards : List (NodeOf D)) (x : Digest) (k : ℕ) (place : k ≡ shard_of K x) where
   -- the shard that holds a hash says its status
-  pub status_there : (s : NodeOf D) → k < length shards → s ≡ slice_index_or shards k s → status s.journal x ≡ status_among shards x
+  pub status_there : (s : NodeOf D) → k < length shards → s ≡ slice_index_or shards k s → status s.journal x ≡ status_among K shards x
   status_there s inside is =
       let at : slice_get shards k ≡ Some s = slice_get-get_or shards k s inside ∙ ap (λ (y : NodeOf D). Some y) (sym is) in
       ap (λ (J : List Record). status J x) (sym (journal_some (λ (y : NodeOf D). y.journal) shards k s at)
-      ∙ ap (λ (n : ℕ). journal_there (λ (y : NodeOf D). y.journal) shards n) there)
+      ∙ ap (λ (n : ℕ). journal_there (λ (y : NodeOf D). y.journal) shards n) place)
 
   -- where there is none, nothing is known of it
-  pub status_past : length shards ≤ k → Absent ≡ status_among shards x
+  pub status_past : length shards ≤ k → Absent ≡ status_among K shards x
   status_past past =
       ap (λ (J : List Record). status J x) (sym (journal_none (λ (y : NodeOf D). y.journal) shards k (slice_get_past shards k past))
-      ∙ ap (λ (n : ℕ). journal_there (λ (y : NodeOf D). y.journal) shards n) there)
+      ∙ ap (λ (n : ℕ). journal_there (λ (y : NodeOf D). y.journal) shards n) place)

@@ -41,26 +41,22 @@ module _ {D : Type 0} (K : Shape) (logs shards : List (NodeOf D)) where
       go false t = refl
 
   -- a line for each hash tells its status at the shard that holds it
-  pub lines_are : length shards ≡ K.shards → (xs : List Digest)
-      → told_lines xs (map (status_among shards) xs) ≡ status_lines K (journals_at K logs shards) xs
-  lines_are count [] = refl
-  lines_are count (x ∷ xs) =
-      let place : ℕ = shard_of K.shards x in
+  pub lines_are : (xs : List Digest)
+      → told_lines xs (map (status_among K shards) xs) ≡ status_lines K (journals_at K logs shards) xs
+  lines_are [] = refl
+  lines_are (x ∷ xs) =
+      let place : ℕ = shard_of K x in
       let low : K.coordinators ≤ K.coordinators + place = omega arith in
       let behind : K.coordinators + place - K.coordinators ≡ place = omega arith in
       let journals : journals_at K logs shards (K.coordinators + place)
-      ≡ journal_there (λ (s : NodeOf D). s.journal) shards (shard_of (length shards) x) =
-      journal_high (K.coordinators + place) low ∙ ap (λ (k : ℕ). journal_there (λ (s : NodeOf D). s.journal) shards k)
-      (behind ∙ ap (λ (k : ℕ). shard_of k x) (sym count)) in
-      let here : status_among shards x ≡ status_at K (journals_at K logs shards) x = ap (λ (J : List Record). status J x) (sym journals) in
-      ap (λ (t : Text). t ++ told_lines xs (map (status_among shards) xs)) (ap (status_line x) here)
-      ∙ ap (λ (t : Text). status_line x (status_at K (journals_at K logs shards) x) ++ t) (lines_are count xs)
+      ≡ journal_there (λ (s : NodeOf D). s.journal) shards place =
+      journal_high (K.coordinators + place) low ∙ ap (λ (k : ℕ). journal_there (λ (s : NodeOf D). s.journal) shards k) behind in
+      let here : status_among K shards x ≡ status_at K (journals_at K logs shards) x = ap (λ (J : List Record). status J x) (sym journals) in
+      ap (λ (t : Text). t ++ told_lines xs (map (status_among K shards) xs)) (ap (status_line x) here)
+      ∙ ap (λ (t : Text). status_line x (status_at K (journals_at K logs shards) x) ++ t) (lines_are xs)
 
 module _ {D : Type 0} (device : Ghosts D) (held : ℕ → Option D) (h : Header) (logs shards : List (NodeOf D))
     (are : AreOpened device held h logs shards) where
-  pub few_shards : length shards ≤ 64
-  few_shards = omega (arith, are.shards_are, are.limits.shards)
-
   abbrev Journals : ℕ → List Record
   Journals n = journals_at h.shape logs shards n
 
@@ -88,7 +84,7 @@ module _ {D : Type 0} (device : Ghosts D) (held : ℕ → Option D) (h : Header)
 
     -- the lines that were printed tell what the ledger knows
     pub did_status : (before after : ℕ → ℕ) (printed : Text → Type 0) (hashes : List Digest)
-        → printed (told_lines hashes (map (status_among shards) hashes))
+        → printed (told_lines hashes (map (status_among h.shape shards) hashes))
         → DidStatus device (record { held = held; faults = before }) (record { held = now; faults = after }) printed hashes
     did_status before after printed hashes told = record {
       shape = h.shape;
@@ -99,5 +95,5 @@ module _ {D : Type 0} (device : Ghosts D) (held : ℕ → Option D) (h : Header)
       room = each_room device held h logs shards are Journals of_logs of_shards;
       back = all_unchanged;
       holds = each_holds device held h logs shards are Journals of_logs of_shards now closed_logs closed_shards;
-      prints = subst printed (lines_are h.shape logs shards are.shards_are hashes) told;
+      prints = subst printed (lines_are h.shape logs shards hashes) told;
     }

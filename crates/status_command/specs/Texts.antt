@@ -1,5 +1,5 @@
 -- The lines of statuses, and what journals the nodes of a ledger have.
-use Rattle.std.specs.Prelude.{ℕ, zero, suc, ◌-◌, ◌++◌, List, [], ◌∷◌, length, nat_lt, if◌then◌else◌}
+use Rattle.std.specs.Prelude.{ℕ, zero, suc, ◌-◌, ◌++◌, List, [], ◌∷◌, nat_lt, if◌then◌else◌}
 use Rattle.cbdc_model.specs.Records.{Digest, Shape, Record}
 use Rattle.cbdc_model.specs.Ranges.{shard_of}
 use Rattle.cbdc_model.specs.Status.{Status, status}
@@ -20,8 +20,8 @@ journal_there journal (x ∷ nodes) zero = journal x
 journal_there journal (x ∷ nodes) (suc place) = journal_there journal nodes place
 
 -- the status of a hash at the shard that holds it, of these
-abbrev pub status_among : {D : Type 0} → List (NodeOf D) → Digest → Status
-status_among shards x = status (journal_there (λ s. s.journal) shards (shard_of (length shards) x)) x
+abbrev pub status_among : {D : Type 0} → Shape → List (NodeOf D) → Digest → Status
+status_among K shards x = status (journal_there (λ s. s.journal) shards (shard_of K x)) x
 
 -- the journals of a ledger's nodes, the coordinators before the shards
 abbrev pub journals_at : {D : Type 0} → Shape → List (NodeOf D) → List (NodeOf D) → ℕ → List Record

@@ -1,5 +1,5 @@
 // `status`: what a ledger knows, read from its open nodes.
-ghost use Rattle.std.specs.Prelude.{◌≡◌, ◌≤◌, ℕ, List, Option, length, map, IfOk};
+ghost use Rattle.std.specs.Prelude.{◌≡◌, ℕ, List, Option, map, IfOk};
 ghost use Rattle.outside.specs.Counts.{HasCause};
 ghost use Rattle.line_text.specs.Lines.{Text, Prints};
 ghost use Rattle.command_answers.specs.Promises.{HasKept};
@@ -7,7 +7,7 @@ ghost use Rattle.command_answers.specs.Scene.{scene_with};
 ghost use Rattle.status_command.specs.Promises.{status_promise, status_needs};
 ghost use Rattle.status_command.specs.Texts.{told_lines, status_among};
 
-use cbdc_types::{Answer, Hash, Status};
+use cbdc_types::{Answer, Hash, Shape, Status};
 use line_text::{WriteFault, write_status};
 use outside::{Disk, Rack, Sink};
 use rack_ledgers::{Nodes, close_nodes, open_nodes};
@@ -17,11 +17,10 @@ use std::alloc::{AllocError, Global};
 use std::thread::Threads;
 
 // What the shard of a hash knows of it.
-fn status_of<D: Disk>(shards: &[ShardNode<D>], hash: &Hash) -> Status
-    ensures { length shards.now ≤ 64 → result ≡ status_among shards.now hash.now }
+fn status_of<D: Disk>(shape: &Shape, shards: &[ShardNode<D>], hash: &Hash) -> Status
+    ensures { result ≡ status_among shape.now shards.now hash.now }
 {
-    let count = shards.len().min(64) as u32;
-    match shards.get(shard_of(hash, count) as usize) {
+    match shards.get(shard_of(hash, shape) as usize) {
         Some(shard) => shard.check_unspent(hash),
         None => Status::Absent,
     }
@@ -33,12 +32,12 @@ fn statuses<D: Disk>(
     nodes: &Nodes<D>,
     hashes: &[Hash],
 ) -> Result<Vec<Status>, AllocError>
-    ensures { length nodes.now.shards.items ≤ 64
-        → IfOk result (λ v. v.items ≡ map (status_among nodes.now.shards.items) hashes.now) }
+    ensures { IfOk result (λ v. v.items
+        ≡ map (status_among nodes.now.header.shape nodes.now.shards.items) hashes.now) }
 {
     let mut all = Vec::with_capacity(alloc, hashes.len())?;
     'hashes: for hash in hashes {
-        all.push(status_of(&nodes.shards, hash))?;
+        all.push(status_of(&nodes.header.shape, &nodes.shards, hash))?;
     }
     Ok(all)
 }

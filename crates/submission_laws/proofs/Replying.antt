@@ -34,23 +34,23 @@ some_reply q r e = cc
 
 -- ---- the entry of a transaction in a shard's part
 
-module _ (past : List Record) (b : Batch) (shards s : ℕ) where
+module _ (past : List Record) (b : Batch) (K : Shape) (s : ℕ) where
   abbrev absent : Compact → Bool
-  absent t = is_empty (on_shard shards s t.inputs) && is_empty (on_shard shards s t.outputs)
+  absent t = is_empty (on_shard K s t.inputs) && is_empty (on_shard K s t.outputs)
 
   abbrev next_claimed : List Digest → Compact → List Digest
-  next_claimed claimed t = if is_held (reply_to past b claimed (on_shard shards s t.inputs)) then on_shard shards s t.inputs ++ claimed else claimed
+  next_claimed claimed t = if is_held (reply_to past b claimed (on_shard K s t.inputs)) then on_shard K s t.inputs ++ claimed else claimed
 
   -- a part whose first place is greater has none
-  none_below : (ts : List Compact) (claimed : List Digest) (k j : ℕ) → k < j → reply_at (answered past b claimed (part shards s j ts)) k ≡ None
+  none_below : (ts : List Compact) (claimed : List Digest) (k j : ℕ) → k < j → reply_at (answered past b claimed (part K s j ts)) k ≡ None
   none_below [] claimed k j low = refl
-  none_below (t ∷ ts) claimed k j low = elim (is_empty (on_shard shards s t.inputs) && is_empty (on_shard shards s t.outputs))
-      as (λ c. reply_at (answered past b claimed (if c then part shards s (suc j) ts else entry_of shards s j t ∷ part shards s (suc j) ts)) k
+  none_below (t ∷ ts) claimed k j low = elim (is_empty (on_shard K s t.inputs) && is_empty (on_shard K s t.outputs))
+      as (λ c. reply_at (answered past b claimed (if c then part K s (suc j) ts else entry_of K s j t ∷ part K s (suc j) ts)) k
       ≡ None) [
         | true ↦ none_below ts claimed k (suc j) (omega (arith, low))
         | false ↦
-            ap (λ c. if c then Some (reply_to past b claimed (on_shard shards s t.inputs))
-            else reply_at (answered past b (next_claimed claimed t) (part shards s (suc j) ts)) k) (differs j k low)
+            ap (λ c. if c then Some (reply_to past b claimed (on_shard K s t.inputs))
+            else reply_at (answered past b (next_claimed claimed t) (part K s (suc j) ts)) k) (differs j k low)
             ∙ none_below ts (next_claimed claimed t) k (suc j) (omega (arith, low))
       ]
     where
@@ -59,28 +59,28 @@ module _ (past : List Record) (b : Batch) (shards s : ℕ) where
 
   -- the transaction at a place has a reply exactly where the shard has a hash of it
   pub replied : (ts : List Compact) (claimed : List Digest) (k m n : ℕ) (c : Compact) → tx_at ts m ≡ Some c → n ≡ k + m
-      → is_some (reply_at (answered past b claimed (part shards s k ts)) n) ≡ not (absent c)
+      → is_some (reply_at (answered past b claimed (part K s k ts)) n) ≡ not (absent c)
   replied [] claimed k m n c e f = absurd (let z : None ≡ Some c = e in cc)
   replied (t ∷ ts) claimed k zero n c e f =
-      subst (λ u. is_some (reply_at (answered past b claimed (part shards s k (t ∷ ts))) n) ≡ not (absent u)) (some_tx t c e)
-      (elim (is_empty (on_shard shards s t.inputs) && is_empty (on_shard shards s t.outputs))
-      as (λ d. is_some (reply_at (answered past b claimed (if d then part shards s (suc k) ts else entry_of shards s k t ∷ part shards s (suc k) ts))
+      subst (λ u. is_some (reply_at (answered past b claimed (part K s k (t ∷ ts))) n) ≡ not (absent u)) (some_tx t c e)
+      (elim (is_empty (on_shard K s t.inputs) && is_empty (on_shard K s t.outputs))
+      as (λ d. is_some (reply_at (answered past b claimed (if d then part K s (suc k) ts else entry_of K s k t ∷ part K s (suc k) ts))
       n) ≡ not d) [
         | true ↦ ap is_some (none_below ts claimed n (suc k) (omega (arith, f)))
         | false ↦
-            ap (λ d. is_some (if d then Some (reply_to past b claimed (on_shard shards s t.inputs))
-            else reply_at (answered past b (next_claimed claimed t) (part shards s (suc k) ts)) n)) (same k n (omega (arith, f)))
+            ap (λ d. is_some (if d then Some (reply_to past b claimed (on_shard K s t.inputs))
+            else reply_at (answered past b (next_claimed claimed t) (part K s (suc k) ts)) n)) (same k n (omega (arith, f)))
       ])
     where
       same : (k n : ℕ) → k ≡ n → (k == n) ≡ true
       same k n e = grind (arith, e)
-  replied (t ∷ ts) claimed k (suc m) n c e f = elim (is_empty (on_shard shards s t.inputs) && is_empty (on_shard shards s t.outputs))
-      as (λ d. is_some (reply_at (answered past b claimed (if d then part shards s (suc k) ts else entry_of shards s k t ∷ part shards s (suc k) ts))
+  replied (t ∷ ts) claimed k (suc m) n c e f = elim (is_empty (on_shard K s t.inputs) && is_empty (on_shard K s t.outputs))
+      as (λ d. is_some (reply_at (answered past b claimed (if d then part K s (suc k) ts else entry_of K s k t ∷ part K s (suc k) ts))
       n) ≡ not (absent c)) [
         | true ↦ replied ts claimed (suc k) m n c e (omega (arith, f))
         | false ↦
-            ap (λ d. is_some (if d then Some (reply_to past b claimed (on_shard shards s t.inputs))
-            else reply_at (answered past b (next_claimed claimed t) (part shards s (suc k) ts)) n)) (differs k n (omega (arith, f)))
+            ap (λ d. is_some (if d then Some (reply_to past b claimed (on_shard K s t.inputs))
+            else reply_at (answered past b (next_claimed claimed t) (part K s (suc k) ts)) n)) (differs k n (omega (arith, f)))
             ∙ replied ts (next_claimed claimed t) (suc k) m n c e (omega (arith, f))
       ]
     where
@@ -88,16 +88,16 @@ module _ (past : List Record) (b : Batch) (shards s : ℕ) where
       differs k n low = grind (arith, low)
 
 -- a shard with a hash of one of the transactions has a part
-pub has_part : (shards s : ℕ) (ts : List Compact) (k m : ℕ) (c : Compact) → tx_at ts m ≡ Some c
-    → (is_empty (on_shard shards s c.inputs) && is_empty (on_shard shards s c.outputs)) ≡ false
-    → is_no_part (part shards s k ts) ≡ false
-has_part shards s [] k m c e here = absurd (let z : None ≡ Some c = e in cc)
-has_part shards s (t ∷ ts) k zero c e here =
-    ap (λ d. is_no_part (if d then part shards s (suc k) ts else entry_of shards s k t ∷ part shards s (suc k) ts))
-    (ap (λ u. is_empty (on_shard shards s u.inputs) && is_empty (on_shard shards s u.outputs)) (some_tx t c e) ∙ here)
-has_part shards s (t ∷ ts) k (suc m) c e here = elim (is_empty (on_shard shards s t.inputs) && is_empty (on_shard shards s t.outputs))
-    as (λ d. is_no_part (if d then part shards s (suc k) ts else entry_of shards s k t ∷ part shards s (suc k) ts) ≡ false) [
-      | true ↦ has_part shards s ts (suc k) m c e here
+pub has_part : (K : Shape) (s : ℕ) (ts : List Compact) (k m : ℕ) (c : Compact) → tx_at ts m ≡ Some c
+    → (is_empty (on_shard K s c.inputs) && is_empty (on_shard K s c.outputs)) ≡ false
+    → is_no_part (part K s k ts) ≡ false
+has_part K s [] k m c e here = absurd (let z : None ≡ Some c = e in cc)
+has_part K s (t ∷ ts) k zero c e here =
+    ap (λ d. is_no_part (if d then part K s (suc k) ts else entry_of K s k t ∷ part K s (suc k) ts))
+    (ap (λ u. is_empty (on_shard K s u.inputs) && is_empty (on_shard K s u.outputs)) (some_tx t c e) ∙ here)
+has_part K s (t ∷ ts) k (suc m) c e here = elim (is_empty (on_shard K s t.inputs) && is_empty (on_shard K s t.outputs))
+    as (λ d. is_no_part (if d then part K s (suc k) ts else entry_of K s k t ∷ part K s (suc k) ts) ≡ false) [
+      | true ↦ has_part K s ts (suc k) m c e here
       | false ↦ refl
     ]
 
@@ -160,7 +160,7 @@ module _ (K : Shape) (minting : Minted) (P : Compact → Type 0) (some : 0 < K.s
         let next : Next K (shard_node K s) rest (Lock stamp c es) =
         ((lists_of K minting P some later kept).each (shard_node K s) newer rest (Lock stamp c es) e h).0 in
         let is : lock_of (J (shard_node K s)) b ≡ es = ap entries_in found in
-        let whole : entries es ≡ part K.shards s 0 (txs_of (J (home_of K b.lane)) b) =
+        let whole : entries es ≡ part K s 0 (txs_of (J (home_of K b.lane)) b) =
         ap entries (sym is) ∙ (all_structure K minting P some later kept).lock_part s b (ap is_some found) in
         record {
           newer = newer;
@@ -208,13 +208,13 @@ module _ (K : Shape) (minting : Minted) (P : Compact → Type 0) (some : 0 < K.s
     there s here =
         let facts = standing K minting P some later kept (home_of K p.batch.lane) 7 p.batch
         (Commit commit.0 p.batch (outcomes_of (J (home_of K p.batch.lane)) p.batch)) commit.1 in
-        locked s p.batch (facts.1 s (here.0, has_part K.shards s (txs_of (J (home_of K p.batch.lane)) p.batch) 0 p.at c holds here.1))
+        locked s p.batch (facts.1 s (here.0, has_part K s (txs_of (J (home_of K p.batch.lane)) p.batch) 0 p.at c holds here.1))
 
     -- by the Lock that stands, if one does
     replies : (s : ℕ) → HasStandingLock K J p.batch s
-        → is_some (reply_of K J p s) ≡ not (is_empty (on_shard K.shards s c.inputs) && is_empty (on_shard K.shards s c.outputs))
+        → is_some (reply_of K J p s) ≡ not (is_empty (on_shard K s c.inputs) && is_empty (on_shard K s c.outputs))
     replies s l = ap (λ es. is_some (reply_at es p.at)) l.replies
-        ∙ replied l.past p.batch K.shards s (txs_of (J (home_of K p.batch.lane)) p.batch) [] 0 p.at p.at c holds (omega arith)
+        ∙ replied l.past p.batch K s (txs_of (J (home_of K p.batch.lane)) p.batch) [] 0 p.at p.at c holds (omega arith)
 
     has : (s : ℕ) → s < K.shards → Concerns K c s → is_some (reply_of K J p s) ≡ true
     has s low here = replies s (there s here) ∙ ap not here.1
@@ -226,8 +226,7 @@ module _ (K : Shape) (minting : Minted) (P : Compact → Type 0) (some : 0 < K.s
     only s low f = (
       low,
       elim (has_lock (J (shard_node K s)) p.batch) as
-          (λ d. has_lock (J (shard_node K s)) p.batch ≡ d
-          → (is_empty (on_shard K.shards s c.inputs) && is_empty (on_shard K.shards s c.outputs)) ≡ false) [
+          (λ d. has_lock (J (shard_node K s)) p.batch ≡ d → (is_empty (on_shard K s c.inputs) && is_empty (on_shard K s c.outputs)) ≡ false) [
             | true ↦ λ e. turned _ (sym (replies s (locked s p.batch e)) ∙ f)
             | false ↦ λ e. absurd (true_false (is_some (reply_of K J p s)) f
                 (no_reply (lock_of (J (shard_node K s)) p.batch) (no_lock (J (shard_node K s)) p.batch e)))

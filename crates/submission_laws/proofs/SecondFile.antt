@@ -204,7 +204,7 @@ module _ (K : Shape) (seed n : ℕ) (some : 0 < K.shards) (lanes : 0 < K.lanes) 
 
     pub made_unspent : IsUnspent K M x
     made_unspent =
-        ap (λ L. status L x) (sym (kept_splits.history.journals_are (shard_node K (shard_of K.shards x))))
+        ap (λ L. status L x) (sym (kept_splits.history.journals_are (shard_node K (shard_of K x))))
         ∙ is_unspent K (mint_of seed n) (splits_of seed n) (splits_clean seed n clean) some lanes kept_splits.later steady_splits idle_rows x
         (omega (arith, made)) unspent_there
 

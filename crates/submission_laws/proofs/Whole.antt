@@ -350,7 +350,7 @@ module _ (K : Shape) (seed n : ℕ) (some : 0 < K.shards) (lanes : 0 < K.lanes) 
   unspent_left : (x : Digest) → IsUnspent K X x → IsLeft seed n coin_hash x
   unspent_left x u =
       let facts = unspent_is K (mint_of seed n) (all_submissions seed n) clean some lanes headline.later rows x
-      (ap (λ L. status L x) (rows_are (shard_node K (shard_of K.shards x))) ∙ u) in
+      (ap (λ L. status L x) (rows_are (shard_node K (shard_of K x))) ∙ u) in
       elim (some_of (count x (genesis_hashes (mint_of seed n))) (made x) facts.0) [
         | inl minted ↦
             let c = from_map coin_hash x (tx_coins (genesis_tx (mint_of seed n))) (count_in x (genesis_hashes (mint_of seed n)) minted) in
@@ -390,7 +390,7 @@ module _ (K : Shape) (seed n : ℕ) (some : 0 < K.shards) (lanes : 0 < K.lanes) 
   left_unspent : (x : Digest) → IsLeft seed n coin_hash x → IsUnspent K X x
   left_unspent x l =
       let by = left_made x l in
-      ap (λ L. status L x) (sym (rows_are (shard_node K (shard_of K.shards x))))
+      ap (λ L. status L x) (sym (rows_are (shard_node K (shard_of K x))))
       ∙ is_unspent K (mint_of seed n) (all_submissions seed n) clean some lanes headline.later rows idle_rows x (omega (arith, by))
       (zero_or (spent x) (λ s. let o = spender_of x s in not_spent x o.0 l o.2))
 

@@ -8,7 +8,7 @@ use Rattle.cbdc_model.specs.Places.{PlaceIn}
 
 -- the shard has a hash that the transaction spends or makes
 abbrev pub Concerns : Shape → Compact → ℕ → Type 0
-Concerns K c s = (s < K.shards) × ((is_empty (on_shard K.shards s c.inputs) && is_empty (on_shard K.shards s c.outputs)) ≡ false)
+Concerns K c s = (s < K.shards) × ((is_empty (on_shard K s c.inputs) && is_empty (on_shard K s c.outputs)) ≡ false)
 
 -- a shard's reply to the transaction at a place, where its Lock of the batch has one
 abbrev pub reply_of : Shape → (ℕ → List Record) → PlaceIn → ℕ → Option Reply
@@ -20,7 +20,7 @@ pub record HasStandingLock (K : Shape) (X : ℕ → List Record) (b : Batch) (s 
   pub stamp : ℕ
   pub past : List Record
   pub stands : X (shard_node K s) ≡ newer ++ Lock stamp b (lock_of (X (shard_node K s)) b) ∷ past
-  pub replies : lock_of (X (shard_node K s)) b ≡ answered past b [] (part K.shards s 0 (txs_of (X (home_of K b.lane)) b))
+  pub replies : lock_of (X (shard_node K s)) b ≡ answered past b [] (part K s 0 (txs_of (X (home_of K b.lane)) b))
 
 -- each shard below n that the transaction concerns held it
 abbrev pub HeldBelow : Shape → (ℕ → List Record) → PlaceIn → Compact → ℕ → Type 0

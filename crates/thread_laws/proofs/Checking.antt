@@ -6,6 +6,7 @@ use Rattle.cbdc_types.specs.Limits.{IsWithinLimits}
 use Rattle.cbdc_types.specs.declared.batch.OpenLane.{OpenLane}
 use Rattle.cbdc_types.specs.declared.calls.NodeFault.{NodeFault}
 use Rattle.cbdc_types.specs.declared.calls.NodeFault.TheVariants.{Broken, Refused as Refuses, ClockEnd, Full, DiskFault, Memory}
+use Rattle.cbdc_model.proofs.Telling.{later_tells}
 use Rattle.cbdc_model.specs.Records.{Shape, Batch, Compact, Record, record_of, is_in_lane, Prepare}
 use Rattle.cbdc_model.specs.Ranges.{home_of}
 use Rattle.cbdc_model.specs.Due.{Due}
@@ -27,6 +28,7 @@ use Rattle.coord_log.specs.OpenLanes.{open_lane}
 use Rattle.recovery.specs.Open.{IsBatchUnfinished, IsResumeStopped}
 use Rattle.run_laws.specs.Runs.{seen_by, IsTurn}
 use Rattle.run_laws.specs.Turns.{Elsewhere}
+use Rattle.ledger_laws.proofs.ByKind.{held_later}
 use Rattle.run_laws.specs.Checked.{CheckedJournals}
 use Rattle.run_laws.specs.Faults.{IsNext, next_prepare, next_lock, HasNoRoom, HasNoStamp, HasFailed, IsStopBy, opened_by, faults_by, capacity_by}
 use Rattle.run_laws.proofs.TurnStep.{lifted, checked_turn_law}
@@ -53,7 +55,7 @@ module _ (K : Shape) (pieces : List (List Compact)) (lane : ℕ) (I J : ℕ → 
   its_own : (n : ℕ) (newer more : List Record) (r : Record) → J n ≡ newer ++ r ∷ (more ++ I n) → is_in_lane lane r ≡ true
   its_own n newer more r e = elim (made.each n newer (more ++ I n) r e (more, refl)) [
     | inl o ↦ absurd (not_alone r o)
-    | inr s ↦ s.0
+    | inr s ↦ sym (later_tells lane r (held_later pieces r s.2)) ∙ s.0
   ]
 
   all_own : (n : ℕ) (more newer : List Record) → J n ≡ newer ++ (more ++ I n) → AreOfLane lane more

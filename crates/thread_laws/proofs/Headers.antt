@@ -28,8 +28,7 @@ journal_append n (row ∷ xs) ys =
 named_first : (K : Shape) (m : Minted) (n : ℕ) (h : Header) → After h [] (first_record K m n) → h ≡ header_of K m.id n
 named_first K m n h =
     elim (nat_lt n K.coordinators) as (λ c. After h []
-    (if c then Start (header_of K m.id n) else Genesis (header_of K m.id n) (on_shard K.shards (n - K.coordinators) m.hashes))
-    → h ≡ header_of K m.id n) [
+    (if c then Start (header_of K m.id n) else Genesis (header_of K m.id n) (on_shard K (n - K.coordinators) m.hashes)) → h ≡ header_of K m.id n) [
       | true ↦ λ a. sym a.0.0
       | false ↦ λ a. sym a.0.0
     ]

@@ -5,7 +5,7 @@ use Rattle.std.specs.Prelude.{take}
 use Rattle.std.proofs.lemmas.Nat.{div_below}
 use Rattle.cbdc_types.specs.Limits.{IsWithinLimits}
 use Rattle.cbdc_types.specs.declared.calls.NodeFault.{NodeFault}
-use Rattle.cbdc_model.specs.Records.{Shape, Batch, Compact, Record, is_in_lane, Prepare}
+use Rattle.cbdc_model.specs.Records.{Shape, Batch, Compact, Record, tells_lane, Prepare}
 use Rattle.cbdc_model.specs.Ranges.{home_of}
 use Rattle.cbdc_model.specs.Slots.{slot, Idle}
 use Rattle.cbdc_model.specs.After.{After}
@@ -23,7 +23,7 @@ use Rattle.thread_laws.specs.Threads.{LaneLeft}
 use Rattle.thread_laws.specs.Stopping.{NodesOf}
 use Rattle.thread_laws.proofs.Stopping.{next_one}
 
-its_lane : (lane t : ℕ) (b : Batch) (txs : List Compact) → is_in_lane lane (Prepare t b txs) ≡ true → b.lane ≡ lane
+its_lane : (lane t : ℕ) (b : Batch) (txs : List Compact) → tells_lane lane (Prepare t b txs) ≡ true → b.lane ≡ lane
 its_lane lane t b txs h = grind (arith, h)
 
 one_piece : (txs these : List Compact) → Contains (these ∷ []) txs → txs ≡ these
@@ -88,7 +88,7 @@ module _ (K : Shape) (m : Minted) (pieces : List (List Compact)) (lane : ℕ) (E
       | inl same ↦ absurd (never (same ∙ stop.so.log_same))
       | inr (q, is, its, seen, holds) ↦
           let e : q ≡ Prepare t b these = same_record q (Prepare t b these) (sym is ∙ left) in
-          let of : b.lane ≡ lane = its_lane lane t b these (subst (λ r. is_in_lane lane r ≡ true) e its) in
+          let of : b.lane ≡ lane = its_lane lane t b these (subst (λ r. tells_lane lane r ≡ true) e its) in
           let piece : these ≡ take K.batch stop.rest = one_piece these (take K.batch stop.rest) (subst (Holds (take K.batch stop.rest ∷ [])) e holds)
           in (
             of,

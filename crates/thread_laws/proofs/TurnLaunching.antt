@@ -5,7 +5,7 @@ use Rattle.std.proofs.lemmas.Nat.{div_below}
 use Rattle.std.proofs.lemmas.Bool.Decides.{eqb_tells}
 use Rattle.cbdc_types.specs.Limits.{IsWithinLimits}
 use Rattle.cbdc_types.specs.declared.batch.OpenLane.{OpenLane}
-use Rattle.cbdc_model.specs.Records.{Shape, Batch, Compact, Record, is_in_lane, Prepare}
+use Rattle.cbdc_model.specs.Records.{Shape, Batch, Compact, Record, tells_lane, Prepare}
 use Rattle.cbdc_model.specs.Ranges.{home_of}
 use Rattle.cbdc_model.specs.After.{After}
 use Rattle.cbdc_model.specs.History.{Minted, header_of}
@@ -36,7 +36,7 @@ home_inside : (lane coordinators lanes : ℕ) → lane < coordinators * lanes �
 home_inside lane coordinators zero lt = absurd (omega (arith, lt))
 home_inside lane coordinators (suc lanes) lt = div_below lane (suc lanes) coordinators (omega arith) lt
 
-its_lane : (lane t : ℕ) (b : Batch) (txs : List Compact) → is_in_lane lane (Prepare t b txs) ≡ true → b.lane ≡ lane
+its_lane : (lane t : ℕ) (b : Batch) (txs : List Compact) → tells_lane lane (Prepare t b txs) ≡ true → b.lane ≡ lane
 its_lane lane t b txs h = grind (arith, h)
 
 no_piece : (txs : List Compact) → Contains [] txs → ⊥
@@ -107,7 +107,7 @@ module _ (K : Shape) (lane : ℕ) (logs shards logs' shards' : ℕ → Sight) (l
           | inr new ↦
               let it : new.0 ≡ Prepare t b txs = same_record new.0 (Prepare t b txs) (sym new.1 ∙ ap (λ k. (logs' k).flight) (sym e) ∙ sym here ∙ is)
               in
-              inr (its_lane lane t b txs (subst (λ r. is_in_lane lane r ≡ true) it new.2), subst (Holds pieces) it new.4)
+              inr (its_lane lane t b txs (subst (λ r. tells_lane lane r ≡ true) it new.2), subst (Holds pieces) it new.4)
         ]
 
   -- where nothing new is a Prepare

@@ -13,9 +13,9 @@ hashes-preserved c = λ J knows y.
     let K = c.args.shape.now in
     let b = c.args.batch.now in
     let x = c.index-xs-at.result in
-    let node : c.coordinators.result + c.shard_of.result ≡ K.coordinators + shard_of K.shards x =
+    let node : c.coordinators.result + c.shard_of.result ≡ K.coordinators + shard_of K x =
     ap (λ n. n + c.shard_of.result) c.coordinators.ensures.value
-    ∙ ap (λ n. K.coordinators + n) (c.shard_of.ensures.value ∙ ap (λ n. shard_of n x) c.shards.ensures.value) in
+    ∙ ap (λ n. K.coordinators + n) c.shard_of.ensures.value in
     let cut = drop_at c.args.xs.now c.hashes.at x c.hashes-test.true c.index-xs-at.is in
     let before = c.hashes.invariant J knows y in
     elim c.if-is_none.branch [

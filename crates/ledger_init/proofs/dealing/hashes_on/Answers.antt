@@ -5,5 +5,5 @@ use Rattle.ledger_init.proofs.dealing.hashes_on.Goals as goal
 
 pub hashes-preserved : goal.hashes-preserved
 hashes-preserved c =
-    c.in_ok-keep.ensures ∙ ap (λ (l : List (List ℕ)). l ++ on_shard c.args.shards c.args.shard (c.hash-item.result ∷ [])) c.hashes.invariant
-    ∙ sym (taken_one c.args.shards c.args.shard c.args.hashes.now c.hashes.hash-index c.hash-item.result c.hashes-test.true c.hash-item.is)
+    c.in_ok-keep.ensures ∙ ap (λ (l : List (List ℕ)). l ++ on_shard c.args.shape.now c.args.shard (c.hash-item.result ∷ [])) c.hashes.invariant
+    ∙ sym (taken_one c.args.shape.now c.args.shard c.args.hashes.now c.hashes.hash-index c.hash-item.result c.hashes-test.true c.hash-item.is)

@@ -19,20 +19,20 @@ loop-x-preserved c = record {
       take_more c.args.tx.now.outputs c.loop-x.x-index c.x-item.result lt
       ∙ ap (λ x. take c.loop-x.x-index c.args.tx.now.outputs ++ x ∷ [])
       (sym (c.x-item.is ∙ ap (λ xs. get_or xs c.loop-x.x-index c.x-item.result) items)) in
-      let below : shard_of c.args.shards c.x-item.result < length c.loop-x.parts.items =
-      omega (arith, c.shard_of-shard.ensures.value, c.shard_of-shard.ensures.below c.requires.some, c.loop-x.invariant.count, c.loop-x.parts.ok.0) in
-      let at = slice_get_read c.loop-x.parts.items (length c.loop-x.parts.items) (shard_of c.args.shards c.x-item.result) c.index_mut.result.now refl
-      below (c.index_mut.ensures.value ∙ ap (λ i. get_or c.loop-x.parts.items i c.index_mut.result.now) c.shard_of-shard.ensures.value) in
+      let below : shard_of c.args.shape.now c.x-item.result < length c.loop-x.parts.items =
+      omega (arith, c.shard_of-shard.ensures.value, c.shard_of-shard.ensures.below, c.loop-x.invariant.count, c.loop-x.parts.ok.0) in
+      let at = slice_get_read c.loop-x.parts.items (length c.loop-x.parts.items) (shard_of c.args.shape.now c.x-item.result) c.index_mut.result.now refl below
+      (c.index_mut.ensures.value ∙ ap (λ i. get_or c.loop-x.parts.items i c.index_mut.result.now) c.shard_of-shard.ensures.value) in
       let same = c.shard_of-shard.ensures.value in
-      subst (λ xs. AreGrown c.args.shards txs c.args.place c.args.tx.now.id c.args.tx.now.inputs xs
+      subst (λ xs. AreGrown c.args.shape.now txs c.args.place c.args.tx.now.id c.args.tx.now.inputs xs
       (set c.loop-x.parts.items c.shard_of-shard.result c.add_output.new.entries)) (sym more)
-      (rw same (output_grows c.args.shards txs c.args.place c.args.tx.now.id c.x-item.result c.args.tx.now.inputs
+      (rw same (output_grows c.args.shape.now txs c.args.place c.args.tx.now.id c.x-item.result c.args.tx.now.inputs
       (take c.loop-x.x-index c.args.tx.now.outputs) c.loop-x.parts.items c.index_mut.result.now c.add_output.new.entries e
       (c.loop-x.invariant.grown txs e split) at c.in_ok-add_output.ensures));
 }
 
 pub returns-clause-grown : goal.returns-clause-grown
 returns-clause-grown c txs e split =
-    subst (λ xs. AreGrown c.args.shards txs c.args.place c.args.tx.now.id c.args.tx.now.inputs xs c.loop-x.parts.items)
+    subst (λ xs. AreGrown c.args.shape.now txs c.args.place c.args.tx.now.id c.args.tx.now.inputs xs c.loop-x.parts.items)
     (take_all c.loop-x.x-index c.args.tx.now.outputs (omega (arith, ap length c.as_slice-x-items.ensures)))
     (c.loop-x.invariant.grown txs e split)

@@ -6,8 +6,8 @@ use Rattle.shard_ranges.proofs.parts.add_outputs.Given as goal
 -- the outputs so far are in their places
 abbrev pub invariant-loop-x : goal.invariant-loop-x
 invariant-loop-x l = record {
-  count : vec_len l.parts ≡ l.shards;
+  count : vec_len l.parts ≡ l.shape.shards;
   items : l.x-items ≡ l.tx.outputs;
-  grown : (txs : List Compact) → length txs ≡ l.place → AreGrown l.shards txs l.place l.tx.id l.tx.inputs [] l.fn.parts.items
-      → AreGrown l.shards txs l.place l.tx.id l.tx.inputs (take l.x-index l.tx.outputs) l.parts.items;
+  grown : (txs : List Compact) → length txs ≡ l.place → AreGrown l.shape txs l.place l.tx.id l.tx.inputs [] l.fn.parts.items
+      → AreGrown l.shape txs l.place l.tx.id l.tx.inputs (take l.x-index l.tx.outputs) l.parts.items;
 }

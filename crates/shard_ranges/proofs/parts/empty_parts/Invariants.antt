@@ -6,5 +6,5 @@ use Rattle.shard_ranges.proofs.parts.empty_parts.Given as goal
 abbrev pub invariant-loop-shard : goal.invariant-loop-shard
 invariant-loop-shard l = record {
   count : vec_len l.parts ≡ l._shard;
-  empty : AreSplit l.shards [] l.parts.items;
+  empty : AreSplit l.shape [] l.parts.items;
 }

@@ -1,10 +1,10 @@
-use Rattle.std.proofs.Common.{◌≡◌, ◌≤◌, ◌∙◌, inr, length, map, refl, subst, arith}
+use Rattle.std.proofs.Common.{◌≡◌, ◌∙◌, inr, map, refl, subst, arith}
 use Rattle.cbdc_types.specs.declared.answer.Answer.TheVariants as answers
 use Rattle.command_answers.specs.Scene.{scene_with}
 use Rattle.command_answers.specs.Texts.{IsPrinted}
 use Rattle.status_command.specs.Promises.{status_promise, status_needs}
 use Rattle.status_command.specs.Texts.{told_lines, status_among}
-use Rattle.status_command.proofs.Ledgers.{few_shards, did_status, all_back}
+use Rattle.status_command.proofs.Ledgers.{did_status, all_back}
 use Rattle.command_answers.proofs.Kept.{kept_not, kept_done, kept_cut}
 use Rattle.command_answers.proofs.Refusals.{not_refused, refusal_fault}
 use Rattle.status_command.proofs.looking.status.Goals as goal
@@ -45,10 +45,8 @@ returns-in-Ok-write_statuses-clause-kept g c file faults =
     let held = g.R.Rack.held c.args.rack.now in
     let nodes = c.in-Ok.nodes in
     let printed = IsPrinted (g.O.Sink.taken c.args.out.now) (g.O.Sink.taken c.write_statuses.new.out) answers.Ok in
-    let few : length c.in-Ok.nodes.shards.items ≤ 64 =
-    few_shards g.R.Disk.Disk held nodes.header nodes.logs.items nodes.shards.items c.in-Ok.ensures.opened.nodes in
-    let same : c.deref.result.now ≡ map (status_among c.in-Ok.nodes.shards.items) c.args.hashes.now =
-    c.deref.ensures.value ∙ c.in-Ok-told.ensures few in
+    let same : c.deref.result.now ≡ map (status_among c.in-Ok.nodes.header.shape c.in-Ok.nodes.shards.items) c.args.hashes.now =
+    c.deref.ensures.value ∙ c.in-Ok-told.ensures in
     kept_done status_needs (status_promise g.R.Disk.Disk c.args.hashes.now) (at c.args.rack.now c.args.out.now)
     (at c.close_nodes.new.rack c.write_statuses.new.out)
     (c.close_nodes.new.rack ≡ c.args.rack.now) (Unit {0}) (λ of. absurd of) (λ _. tt) (λ name. refl)
@@ -64,10 +62,8 @@ returns-clause-kept g c file faults =
     let held = g.R.Rack.held c.args.rack.now in
     let nodes = c.in-Ok.nodes in
     let printed = IsPrinted (g.O.Sink.taken c.args.out.now) (g.O.Sink.taken c.write_statuses.new.out) answers.WriteFault in
-    let few : length c.in-Ok.nodes.shards.items ≤ 64 =
-    few_shards g.R.Disk.Disk held nodes.header nodes.logs.items nodes.shards.items c.in-Ok.ensures.opened.nodes in
-    let same : c.deref.result.now ≡ map (status_among c.in-Ok.nodes.shards.items) c.args.hashes.now =
-    c.deref.ensures.value ∙ c.in-Ok-told.ensures few in
+    let same : c.deref.result.now ≡ map (status_among c.in-Ok.nodes.header.shape c.in-Ok.nodes.shards.items) c.args.hashes.now =
+    c.deref.ensures.value ∙ c.in-Ok-told.ensures in
     kept_cut status_needs (status_promise g.R.Disk.Disk c.args.hashes.now) (at c.args.rack.now c.args.out.now)
     (at c.close_nodes.new.rack c.write_statuses.new.out)
     (c.close_nodes.new.rack ≡ c.args.rack.now) (Unit {0}) (λ of. absurd of) (λ _. tt) (λ name. refl)

@@ -1,0 +1,2 @@
+-- What the proofs of several crates take from the definitions.
+pub mod Telling
