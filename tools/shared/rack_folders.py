@@ -22,6 +22,9 @@ def is_within(path, folder):
 
 def target_of(word, source):
     """A folder that isn't there yet, outside of the rack that is copied."""
+    for name, given in (("FROM", source), ("TO", word)):
+        if not given:
+            least.bad_words(f"{name} is empty: two folders are wanted, FROM and TO")
     target = word.rstrip("/") or "/"
     if os.path.lexists(target):
         least.fail(f"{target} is there: a copy gets a folder of its own")
