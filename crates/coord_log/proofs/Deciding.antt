@@ -54,7 +54,7 @@ commit_late c K J broken t r replies stands whole rising t-is late =
 
 -- what the lanes make of the replies
 abbrev pub IsDecided : CoordOf → ℕ → List ShardReplies → Record → Type 0
-IsDecided c lane replies r = (txs : List Compact) → (coord_lane c lane).masks ≡ masks_of c.header.shape.shards txs
+IsDecided c lane replies r = (txs : List Compact) → (coord_lane c lane).masks ≡ masks_of c.header.shape txs
     → AreRepliesTo c.header.shape txs replies
     → r ≡ Commit (suc (max c.last (reply_cause c.header.shape replies))) (core_batch c lane) (decided c.header.shape txs replies)
 
@@ -112,7 +112,7 @@ decide_ready {D} {G} n c lane stamp os r whole same keeps sound unbroken own pha
     prepared_size n.log.header J lane on.node.journal phase in
     let count : length os ≡ length (txs_of (journal_of n) (open_batch (journal_of n) lane)) =
     sym next'.2 ∙ ap length (same.masks lane ∙ on.stands.masks lane own phase)
-    ∙ length-map (txs_of J (open_batch J lane)) (λ t. mask_of b.header.shape.shards t) in
+    ∙ length-map (txs_of J (open_batch J lane)) (λ t. mask_of b.header.shape t) in
     let rooms = others_roomed b c lane same keeps ready.rooms in
     let memory : HasLogRoom n.log (0 + ahead_of c.lanes) largest = let Q : ℕ
     → Type 0 = λ k. HasLogRoom n.log (0 + k) largest in subst Q (sym same.ahead) ready.memory in

@@ -36,14 +36,14 @@ pub prepare_place : {D : Type 0} {G : Ghosts D} (l : RecordLog D G) (c d : Coord
     → HasPlace l d (size_of (Prepare stamp b txs)) 1
 prepare_place {D} {G} l c d stamp b txs whole next takes rooms memory space =
     let n : CoordLaneOf = record (coord_lane c b.lane)
-    { slot = record { number = b.number; phase = InPrepare }; masks = masks_of c.header.shape.shards txs } in
-    let masks : length (masks_of c.header.shape.shards txs) ≡ length txs = length-map txs (λ t. mask_of c.header.shape.shards t) in
+    { slot = record { number = b.number; phase = InPrepare }; masks = masks_of c.header.shape txs } in
+    let masks : length (masks_of c.header.shape txs) ≡ length txs = length-map txs (λ t. mask_of c.header.shape t) in
     let idle : lane_kept (coord_lane c b.lane) ≡ 0 = ap (λ p. room_in p 0 (length (coord_lane c b.lane).masks)) next.0.1 in
     let idle' : ahead_in (coord_lane c b.lane).slot.phase ≡ 0 = ap ahead_in next.0.1 in
     let kept : kept_of d.lanes ≡ kept_of (with_lane c b.lane n).lanes = ap (λ x. kept_of x.lanes) takes in
     let ahead : ahead_of d.lanes ≡ ahead_of (with_lane c b.lane n).lanes = ap (λ x. ahead_of x.lanes) takes in
     let k : kept_of (with_lane c b.lane n).lanes + lane_kept (coord_lane c b.lane)
-    ≡ kept_of c.lanes + (110 + 57 * length (masks_of c.header.shape.shards txs)) = kept_set c b.lane n whole in
+    ≡ kept_of c.lanes + (110 + 57 * length (masks_of c.header.shape txs)) = kept_set c b.lane n whole in
     let a : ahead_of (with_lane c b.lane n).lanes + ahead_in (coord_lane c b.lane).slot.phase ≡ ahead_of c.lanes + 3 = ahead_set c b.lane n whole in
     let roomed : AllRoomed (with_prepared c stamp b txs) =
     room_set c b.lane n (place_in c b.lane whole) (λ e. omega (arith, masks, next.1)) (all_others c b.lane rooms) in

@@ -129,7 +129,7 @@ returns-clause-count g c =
     c.tell.ensures ∙ ap (λ x. outcomes_in (Some x)) c.decide-next.ensures.«record» in
     let masks : length (coord_lane c.self.inside.node.core c.args.lane).masks
     ≡ length (txs_of (reverse c.self.inside.node.log.records.items) (open_batch (reverse c.self.inside.node.log.records.items) c.args.lane)) =
-    ap length (sound.on.stands.masks c.args.lane own phase) ∙ length-map txs (λ t. mask_of c.self.inside.node.core.header.shape.shards t) in
+    ap length (sound.on.stands.masks c.args.lane own phase) ∙ length-map txs (λ t. mask_of c.self.inside.node.core.header.shape t) in
     subst J (ap (λ x. x.journal) c.self.view_is) (ap length told
     ∙ length-combined (coord_lane c.self.inside.node.core c.args.lane).masks c.args.replies.now ∙ masks)
 
