@@ -1,20 +1,15 @@
-use Rattle.std.proofs.Common.{◌≡◌, ℕ, ◌≤◌, ◌∙◌, List, length, ap, sym, subst}
+use Rattle.std.proofs.Common.{◌≡◌, ◌≤◌, length, subst}
 use Rattle.std.specs.Vec.{vec_capacity}
-use Rattle.cbdc_model.specs.Records.{Entry}
-use Rattle.lane_driver.specs.Calls.{AreParts}
 use Rattle.lane_driver.specs.Rooms.{IsLaterRoom}
 use Rattle.lane_driver.proofs.Parting.{parts_rise, parts_small}
 use Rattle.lane_driver.proofs.room.BatchRoom.take.Goals as goal
 
 pub returns-clause-room : goal.returns-clause-room
 returns-clause-room c =
-    let same : c.in_ok-parts.parts ≡ c.parts.inside.items.items = sym {A = List (ℕ × List Entry)} c.parts.view_is in
-    let are : AreParts c.args.shape.now c.args.txs.now c.parts.inside.items.items =
-    subst (λ (ps : List (ℕ × List Entry)). AreParts c.args.shape.now c.args.txs.now ps) same c.in_ok-parts.ensures in
-    let count : c.len-count.result ≡ length c.parts.inside.items.items = c.len-count.ensures ∙ ap length same in
+    let count : c.len-count.result ≡ length c.in_ok-parts.parts = c.len-count.ensures in
     record {
-      parts = parts_rise c.args.shape.now c.args.txs.now c.parts.inside.items.items are;
-      small = parts_small c.args.shape.now c.args.txs.now c.parts.inside.items.items are;
+      parts = parts_rise c.args.shape.now c.args.txs.now c.in_ok-parts.parts c.in_ok-parts.ensures;
+      small = parts_small c.args.shape.now c.args.txs.now c.in_ok-parts.parts c.in_ok-parts.ensures;
       no_locks = c.in_ok-with_capacity.ensures.items;
       locks = subst (λ n. n ≤ vec_capacity c.in_ok-with_capacity.field-0) count c.in_ok-with_capacity.ensures.capacity;
       no_replied = c.in_ok-with_capacity-2.ensures.items;
@@ -27,5 +22,4 @@ returns-clause-room c =
     }
 
 pub returns-clause-parts : goal.returns-clause-parts
-returns-clause-parts c = subst (λ (ps : List (ℕ × List Entry)). AreParts c.args.shape.now c.args.txs.now ps)
-    (sym {A = List (ℕ × List Entry)} c.parts.view_is) c.in_ok-parts.ensures
+returns-clause-parts c = c.in_ok-parts.ensures
