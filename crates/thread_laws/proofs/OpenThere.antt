@@ -43,7 +43,7 @@ module _ (h : Header) (J : List Record) (j : IsJournal h J) (lane : ℕ) (is_lan
     last_grammar = own.grammar _ b last.last last.stands
 
     no_shard : h.node < h.shape.coordinators → IsShardPhase (slot J lane).phase → ⊥
-    no_shard lt p = let le : h.shape.coordinators ≤ h.node = of_shard h last.last last_grammar (subst IsShardPhase (sym last.phase) p) in
+    no_shard lt p = let le : h.shape.coordinators ≤ h.node = of_shard h lane last.last last_grammar (subst IsShardPhase (sym last.phase) p) in
         omega (arith, le, lt)
 
     early : slot_stamp J lane < 2 ^ 63
