@@ -42,7 +42,8 @@ none_left first whole flight (l ∷ ls) (inl e) = sym e.0
 none_left first whole flight (l ∷ ls) (inr k) = none_left first whole flight ls k
 
 in_lane : (l : ℕ) (r : Record) (log : List Record) → is_in_lane l r ≡ true → of_lane l (r ∷ log) ≡ [] → ⊥
-in_lane l r log e f = let z : r ∷ of_lane l log ≡ [] = subst (λ b. (if b then r ∷ of_lane l log else of_lane l log) ≡ []) (in_lane_tells l l r e ∙ e) f in cc
+in_lane l r log e f = let z : r ∷ of_lane l log ≡ [] =
+    subst (λ b. (if b then r ∷ of_lane l log else of_lane l log) ≡ []) (in_lane_tells l l r e ∙ e) f in cc
 
 made_none : (first : Sight) (log : List Record) (flight : Option Record) (faults : ℕ) (lanes : List ℕ) (x : ℕ)
     → AllHands first.seen log flight faults (map (fresh first) lanes) → 0 < times x lanes → of_lane x log ≡ []
