@@ -1,7 +1,8 @@
 -- A record that had room leaves room for what is kept behind it.
 use Rattle.std.proofs.Common.{◌≡◌, ◌≢◌, ℕ, ◌+◌, ◌*◌, ◌<◌, ◌≤◌, List, [], ◌∷◌, length, refl, arith}
 use Rattle.std.proofs.lemmas.List.Sums.{sum_by-cons}
-use Rattle.cbdc_model.specs.Records.{Header, Batch, Compact, Outcome, Record, txs_of, Lock, Finish, Forget, Prepare, Commit, Discard, Done, lock_of}
+use Rattle.cbdc_model.specs.Records.{Header, Batch, Compact, Outcome, Record, txs_of, Lock, Finish, Forget, Prepare, Commit, Discard, Done, Upgrade}
+use Rattle.cbdc_model.specs.Records.{Seal, lock_of}
 use Rattle.cbdc_model.specs.Slots.{slot, InPrepare, InCommit, InDiscard}
 use Rattle.cbdc_model.specs.After.{After}
 use Rattle.cbdc_model.specs.Room.{size_of, lane_room, kept_room, need_of}
@@ -123,4 +124,6 @@ room_behind h J (Done stamp b) limit some after room need =
       room,
       sum_by-cons size_of (Done stamp b) J,
     )
+room_behind h J (Upgrade stamp batch) limit some after room need = absurd after.0
+room_behind h J (Seal stamp to shards) limit some after room need = absurd after.0
 room_behind h J other limit some after room need = absurd (some after.1)
