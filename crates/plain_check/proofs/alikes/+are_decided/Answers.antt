@@ -20,7 +20,8 @@ returns-then-are_elsewhere-2 t c =
 
 pub returns-then-d-won_at : goal.returns-then-d-won_at
 returns-then-d-won_at t c =
-    let some : (is_empty (on_shard c.args.shape.now c.args.shard c.in-Some.t.now.inputs) && is_empty (on_shard c.args.shape.now c.args.shard c.in-Some.t.now.outputs))
+    let some : (is_empty (on_shard c.args.shape.now c.args.shard c.in-Some.t.now.inputs)
+    && is_empty (on_shard c.args.shape.now c.args.shard c.in-Some.t.now.outputs))
     ≡ false = elim c.else-are_elsewhere.branch [
       | else-are_elsewhere-via-then-are_elsewhere+else-are_elsewhere-2 w ↦
           grind (arith, common_steps, w.if-are_elsewhere-2.false, w.are_elsewhere-then-are_elsewhere.ensures, w.as_slice-then-are_elsewhere.ensures)
@@ -28,7 +29,8 @@ returns-then-d-won_at t c =
           grind (arith, common_steps, w.if-are_elsewhere.false, c.are_elsewhere.ensures, c.as_slice.ensures)
     ] in
     let same : c.in-Some-split_first.d.now ≡ won_at c.args.outcomes.now 0 = grind (arith, common_steps, c.if-d-won_at.true, c.won_at.ensures) in
-    decides_here c.args.shape.now c.args.shard c.args.txs.now c.in-Some.t.now c.in-Some.others.now c.args.outcomes.now c.behind-then-d-won_at.result.now
+    decides_here c.args.shape.now c.args.shard c.args.txs.now c.in-Some.t.now c.in-Some.others.now c.args.outcomes.now
+    c.behind-then-d-won_at.result.now
     c.args.ds.now
     c.in-Some-split_first.d.now c.in-Some-split_first.rest.now c.are_decided-then-d-won_at.result c.in-Some.ensures.cases.0
     c.in-Some-split_first.ensures.cases.0 some c.behind-then-d-won_at.ensures same
@@ -36,7 +38,8 @@ returns-then-d-won_at t c =
 
 pub returns-else-d-won_at : goal.returns-else-d-won_at
 returns-else-d-won_at t c =
-    let some : (is_empty (on_shard c.args.shape.now c.args.shard c.in-Some.t.now.inputs) && is_empty (on_shard c.args.shape.now c.args.shard c.in-Some.t.now.outputs))
+    let some : (is_empty (on_shard c.args.shape.now c.args.shard c.in-Some.t.now.inputs)
+    && is_empty (on_shard c.args.shape.now c.args.shard c.in-Some.t.now.outputs))
     ≡ false = elim c.else-are_elsewhere.branch [
       | else-are_elsewhere-via-then-are_elsewhere+else-are_elsewhere-2 w ↦
           grind (arith, common_steps, w.if-are_elsewhere-2.false, w.are_elsewhere-then-are_elsewhere.ensures, w.as_slice-then-are_elsewhere.ensures)
